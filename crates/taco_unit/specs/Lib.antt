@@ -1,0 +1,6 @@
+pub mod Words
+pub mod Parts
+pub mod Named
+pub mod Kinds
+pub mod Bodies
+pub mod Well
