@@ -1,0 +1,13 @@
+//! Heaps, starts and problems, and the definitions of what a clause evaluates to, what a run does
+//! and when a contract is broken.
+#![tactic(auto)]
+
+mod judged;
+mod problem;
+mod start;
+mod value;
+
+pub use judged::{Judged, Part};
+pub use problem::{Plan, Problem, Scope};
+pub use start::Start;
+pub use value::{Object, Seen, Value};
