@@ -1,0 +1,2 @@
+pub mod EvalForms
+pub mod ExecForms
