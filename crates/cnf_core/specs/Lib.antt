@@ -1,0 +1,4 @@
+pub mod Arena
+pub mod Clauses
+pub mod Literal
+pub mod Truth

@@ -1,0 +1,4 @@
+pub mod LogLemmas
+pub mod Marked
+pub mod Once
+pub mod Sound

@@ -1,0 +1,8 @@
+-- A table that marks nothing that is true marks exactly the literals of an empty trail.
+use Rattle.std.proofs.Common.{◌≡◌, ℕ, Bool, true, false, List, [], slice_index_or, sym, ◌∙◌}
+use Rattle.std.proofs.lemmas.Bool.{false_from_ne_true, false≢true}
+use Rattle.derivation.specs.Propagation.{is_true}
+use Rattle.derivation.specs.Marks.{AreMarks}
+
+pub none_marked : (marks : List Bool) → ((lit : ℕ) → slice_index_or marks lit false ≡ true → is_true [] lit ≡ true) → AreMarks marks []
+none_marked marks all lit = false_from_ne_true (slice_index_or marks lit false) (λ h. false≢true (all lit h))

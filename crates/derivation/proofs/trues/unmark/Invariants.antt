@@ -1,0 +1,7 @@
+use Rattle.std.proofs.Common.{◌≡◌, ℕ, true, false, drop, slice_index_or}
+use Rattle.derivation.specs.Propagation.{is_true}
+use Rattle.derivation.proofs.trues.unmark.Given as goal
+
+-- what is still marked comes later
+abbrev pub invariant-loop-lit : goal.invariant-loop-lit
+invariant-loop-lit l = (lit : ℕ) → slice_index_or l.marks.items lit false ≡ true → is_true (drop l.lit-index l.lits) lit ≡ true

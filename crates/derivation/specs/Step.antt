@@ -1,0 +1,7 @@
+-- A line of a log, as contracts see it.
+use Rattle.std.specs.Prelude.{ℕ, List}
+
+-- the literals of its clause, and the numbers of the clauses that it names as hints
+pub record Step : Type 0 where
+  pub clause : List ℕ
+  pub hints : List ℕ

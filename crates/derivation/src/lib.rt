@@ -1,0 +1,17 @@
+//! Derivations by unit propagation: logs of clauses with hints, and the check that each line follows.
+#![tactic(auto)]
+
+mod checker;
+mod effect;
+mod fault;
+mod laws;
+mod line;
+mod log;
+mod trues;
+
+pub use checker::{Checked, check};
+pub use effect::Effect;
+pub use fault::CheckFault;
+pub use laws::what_follows_is_true;
+pub use line::Line;
+pub use log::Log;

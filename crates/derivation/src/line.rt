@@ -1,0 +1,21 @@
+use std::marker::Model;
+
+use cnf_core::Lit;
+use smallvec::SmallVec;
+
+/// One line of a log: a clause, and the numbers of the clauses that lead to a conflict where all of
+/// its literals are false. The clauses of the formula have the numbers from 1 on, and behind them
+/// come the lines in order. Contracts see a line as two lists of numbers.
+#[derive(Drop)]
+pub struct Line {
+    pub clause: SmallVec<Lit, 8>,
+    pub hints: SmallVec<u32, 8>,
+}
+
+impl Model for Line {
+    ghost use Rattle.derivation.specs.Step.{Step};
+
+    ghost Value = { Step };
+
+    ghost view = { λ line. record { clause = line.clause.items; hints = line.hints.items } };
+}
