@@ -1,0 +1,12 @@
+//! Circuits: an arena of gates, in which equal conjunctions are one gate.
+#![tactic(auto)]
+
+mod arena;
+mod circuit;
+mod conjunction;
+mod gates;
+#[cfg(test)]
+mod tests;
+
+pub use circuit::{Gate, Node};
+pub use gates::Gates;
