@@ -1,2 +1,4 @@
 pub mod EvalForms
 pub mod ExecForms
+mod Rows
+mod Cases
