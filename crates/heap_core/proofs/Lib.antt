@@ -1,4 +1,5 @@
 pub mod EvalForms
 pub mod ExecForms
+pub mod Visiting
 mod Rows
 mod Cases

@@ -5,3 +5,4 @@ pub mod Eval
 pub mod Exec
 pub mod Start
 pub mod Judge
+pub mod Stages

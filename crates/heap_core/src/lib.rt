@@ -3,9 +3,11 @@
 #![tactic(auto)]
 
 mod judged;
+mod kinds;
 mod problem;
 mod start;
 mod value;
+mod visit;
 
 pub use judged::{Judged, Part};
 pub use problem::{Plan, Problem, Scope};
