@@ -1,0 +1,6 @@
+//! The canonical order of a start's objects, and the tuples of a problem.
+#![tactic(auto)]
+
+mod tuple;
+
+pub use tuple::Tuple;
