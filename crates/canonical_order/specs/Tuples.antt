@@ -1,6 +1,6 @@
 -- The tuples of a problem. (This project's own; the TACO article, "Computing Tight Field Bounds", gives the
 -- purpose: a tuple that no canonical heap holds may be left out.)
-use Rattle.std.specs.Prelude.{ℕ, zero, suc, ◌==◌, Bool, true, false, List, [], ◌∷◌, ◌++◌, length, map, filter, flat_map, slice_get, IsTrue}
+use Rattle.std.specs.Prelude.{not, ◌+◌, ℕ, zero, suc, ◌==◌, Bool, true, false, List, [], ◌∷◌, ◌++◌, length, map, filter, flat_map, slice_get, IsTrue}
 use Rattle.std.specs.List.{range_with_len}
 use Rattle.std.specs.Option.{option_map_or}
 use Rattle.std.specs.Ordering.{int_eq}
@@ -25,23 +25,22 @@ use Rattle.canonical_order.specs.Canonical.{IsCanonical}
 abbrev pub targets : ℕ → List Value
 targets objects = Null ∷ map Obj (range_with_len 0 objects)
 
--- the receiver is a root, where there is one
-abbrev pub receiver_root : Bool → List ℕ
-receiver_root true = []
-receiver_root false = 0 ∷ []
-
--- the parameter of this number, counted from 1, is a root: it is of a class kind
-abbrev pub is_root_param : MethodDef → ℕ → Bool
-is_root_param m zero = false
-is_root_param m (suc i) = option_map_or (λ q. is_class_kind q.kind) (slice_get m.params i) false
+-- the receiver is a root, where there is one, and so is each parameter of class kind, counted from 1
+abbrev pub is_root : MethodDef → ℕ → Bool
+is_root m zero = not m.fixed
+is_root m (suc i) = option_map_or (λ q. is_class_kind q.kind) (slice_get m.params i) false
 
 -- the roots of a method in order
 abbrev pub roots_of : MethodDef → List ℕ
-roots_of m = receiver_root m.fixed ++ filter (is_root_param m) (range_with_len 1 (length m.params))
+roots_of m = filter (is_root m) (range_with_len 0 (length m.params + 1))
+
+-- the field of this number is of class kind
+abbrev pub is_link : Parts → ℕ → Bool
+is_link u f = option_map_or (λ d. is_class_kind d.kind) (slice_get u.fields f) false
 
 -- the fields of class kind, in the order of the unit
 abbrev pub links_of : Parts → List ℕ
-links_of u = filter (λ f. option_map_or (λ d. is_class_kind d.kind) (slice_get u.fields f) false) (range_with_len 0 (length u.fields))
+links_of u = filter (is_link u) (range_with_len 0 (length u.fields))
 
 -- the tuples of a problem in order: of each root null, 0, .., K - 1; then of each class-kind field, of each
 -- object 0, .., K - 1, null, 0, .., K - 1
