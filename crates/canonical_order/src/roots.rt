@@ -1,8 +1,8 @@
-ghost use Rattle.std.specs.Prelude.{◌≡◌, ◌≤◌, length, filter, slice_get};
-ghost use Rattle.std.specs.List.{range_with_len};
+ghost use Rattle.std.specs.Prelude.{◌≡◌, ◌≤◌, ◌<◌, length, slice_get, count_by, Some};
+ghost use Rattle.taco_unit.specs.Kinds.{is_class_kind};
 ghost use Rattle.canonical_order.specs.Tuples.{is_root as is_root_lem, is_link as is_link_lem, roots_of, links_of};
 
-use taco_unit::{Kind, MethodDef, Unit};
+use taco_unit::{FieldDef, Kind, MethodDef, Unit};
 
 /// Whether the receiver (0) or the parameter of this number, counted from 1, is a root.
 fn is_root(method: &MethodDef, root: usize) -> bool
@@ -27,10 +27,20 @@ fn is_link(unit: &Unit, field: usize) -> bool
     }
 }
 
+/// The method of this number.
+pub fn method_at(unit: &Unit, method: u8) -> &MethodDef
+    requires { method < length unit.now.methods }
+    ensures there { slice_get unit.now.methods method ≡ Some result.now }
+    ensures few { length result.now.params ≤ 8 }
+{
+    &unit.methods.as_slice()[usize::from(method)]
+}
+
 /// How many roots the method has.
 pub fn root_count(method: &MethodDef) -> usize
     requires { length method.now.params ≤ 8 }
-    ensures { result ≡ length (roots_of method.now) }
+    ensures value { result ≡ length (roots_of method.now) }
+    ensures few { result ≤ 9 }
 {
     let last = method.params.len();
     (0..last + 1).filter(|root| is_root(method, *root)).count()
@@ -55,13 +65,22 @@ pub fn root_at(method: &MethodDef, place: usize) -> Option<usize>
     None
 }
 
+/// How many of these fields are of class kind.
+fn of_class_kind(fields: &[FieldDef]) -> usize
+    ensures { result ≡ count_by (λ d. is_class_kind d.kind) fields.now }
+{
+    fields
+        .iter()
+        .filter(|d| matches!(d.kind, Kind::Ref(_)))
+        .count()
+}
+
 /// How many fields of the unit are of class kind.
 pub fn link_count(unit: &Unit) -> usize
-    ensures { result ≡ length (links_of unit.now) }
+    ensures value { result ≡ length (links_of unit.now) }
+    ensures few { result ≤ 32 }
 {
-    (0..unit.fields.len())
-        .filter(|field| is_link(unit, *field))
-        .count()
+    of_class_kind(unit.fields.as_slice())
 }
 
 #[tactic(auto, using(crate::proofs::Ranges::range_step))]
