@@ -42,14 +42,20 @@ is_link u f = option_map_or (λ d. is_class_kind d.kind) (slice_get u.fields f) 
 abbrev pub links_of : Parts → List ℕ
 links_of u = filter (is_link u) (range_with_len 0 (length u.fields))
 
--- the tuples of a problem in order: of each root null, 0, .., K - 1; then of each class-kind field, of each
--- object 0, .., K - 1, null, 0, .., K - 1
+-- the tuples of these roots: of each null, 0, .., K - 1
+abbrev pub tuples_of_roots : ℕ → List ℕ → List Tuple
+tuples_of_roots objects = flat_map (λ r. map (Root r) (targets objects))
+
+-- the tuples of these fields: of each the objects 0, .., K - 1, and of each of these null, 0, .., K - 1
+abbrev pub tuples_of_links : ℕ → List ℕ → List Tuple
+tuples_of_links objects = flat_map (λ f. flat_map (λ o. map (Field f o) (targets objects)) (range_with_len 0 objects))
+
+-- the tuples of a problem in order: those of its roots, then those of its class-kind fields
 abbrev pub root_tuples : Posed → List Tuple
-root_tuples p = flat_map (λ r. map (Root r) (targets p.scope.objects)) (option_map_or roots_of (method_of p) [])
+root_tuples p = tuples_of_roots p.scope.objects (option_map_or roots_of (method_of p) [])
 
 abbrev pub field_tuples : Posed → List Tuple
-field_tuples p =
-    flat_map (λ f. flat_map (λ o. map (Field f o) (targets p.scope.objects)) (range_with_len 0 p.scope.objects)) (links_of p.unit)
+field_tuples p = tuples_of_links p.scope.objects (links_of p.unit)
 
 abbrev pub tuples : Posed → List Tuple
 tuples p = root_tuples p ++ field_tuples p

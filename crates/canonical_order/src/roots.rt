@@ -1,4 +1,4 @@
-ghost use Rattle.std.specs.Prelude.{◌≡◌, ◌≤◌, ◌<◌, length, slice_get, count_by, Some};
+ghost use Rattle.std.specs.Prelude.{◌≡◌, ◌≤◌, ◌<◌, length, slice_get, count_by, Some, IfSome};
 ghost use Rattle.taco_unit.specs.Kinds.{is_class_kind};
 ghost use Rattle.canonical_order.specs.Tuples.{is_root as is_root_lem, is_link as is_link_lem, roots_of, links_of};
 
@@ -50,7 +50,8 @@ pub fn root_count(method: &MethodDef) -> usize
 /// The root at this place among the method's roots.
 pub fn root_at(method: &MethodDef, place: usize) -> Option<usize>
     requires { length method.now.params ≤ 8 }
-    ensures { result ≡ slice_get (roots_of method.now) place }
+    ensures value { result ≡ slice_get (roots_of method.now) place }
+    ensures small { IfSome result (λ root. root ≤ 8) }
 {
     let mut left = place;
     let count = method.params.len() + 1;
@@ -86,7 +87,8 @@ pub fn link_count(unit: &Unit) -> usize
 #[tactic(auto, using(crate::proofs::Ranges::range_step))]
 /// The field at this place among the unit's fields of class kind.
 pub fn link_at(unit: &Unit, place: usize) -> Option<usize>
-    ensures { result ≡ slice_get (links_of unit.now) place }
+    ensures value { result ≡ slice_get (links_of unit.now) place }
+    ensures small { IfSome result (λ field. field < 64) }
 {
     let mut left = place;
     let count = unit.fields.len();
