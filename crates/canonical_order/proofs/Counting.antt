@@ -1,6 +1,6 @@
 -- Lists that are put together from lists of one length: how long they are, and what stands where.
-use Rattle.std.proofs.Common.{◌≡◌, ℕ, zero, suc, ◌+◌, ◌-◌, ◌*◌, ◌<◌, ◌≤◌, Bool, true, false, cond, List, [], ◌∷◌, ◌++◌, length, Option, Some, None, refl, ap, sym, ◌∙◌, subst, arith}
-use Rattle.std.specs.Prelude.{map, filter, flat_map, slice_get, count_by}
+use Rattle.std.proofs.Common.{◌≡◌, ℕ, zero, suc, ◌+◌, ◌*◌, ◌<◌, Bool, true, false, cond, List, [], ◌∷◌, ◌++◌, length, Some, refl, ap, sym, ◌∙◌, arith}
+use Rattle.std.specs.Prelude.{filter, flat_map, slice_get, count_by}
 use Rattle.std.specs.List.{range_with_len}
 use Rattle.std.specs.Option.{option_map_or}
 use Rattle.std.proofs.lemmas.List.Concat.{flat_map-cons}
@@ -47,7 +47,7 @@ count_from test [] a g same = refl
 count_from test (x ∷ xs) a g same =
     let here : g a ≡ test x = ap g (omega arith) ∙ same 0 in
     let rest : length (filter g (range_with_len (a + 1) (length xs))) ≡ count_by test xs =
-        count_from test xs (a + 1) g (λ i. ap g (omega arith) ∙ same (suc i))
+    count_from test xs (a + 1) g (λ i. ap g (omega arith) ∙ same (suc i))
     in
     kept_one (g a) (test x) here (filter g (range_with_len (a + 1) (length xs))) a (count_by test xs) rest ∙ sym (sum_by-cons (λ y. cond (test y) 1 0) x xs)
 

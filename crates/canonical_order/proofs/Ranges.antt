@@ -1,5 +1,5 @@
 -- Ranges of numbers, as loops go along them.
-use Rattle.std.proofs.Common.{◌≡◌, ℕ, zero, suc, ◌+◌, ◌-◌, ◌<◌, ◌∷◌, arith, ap, sym, ◌∙◌, refl}
+use Rattle.std.proofs.Common.{◌≡◌, ℕ, suc, ◌+◌, ◌-◌, ◌<◌, ◌∷◌, arith, refl}
 use Rattle.std.specs.List.{range_with_len}
 
 pub range_step : (o n : ℕ) → o < n → range_with_len o (n - o) ≡ o ∷ range_with_len (o + 1) (n - (o + 1))

@@ -4,6 +4,7 @@ use Rattle.std.specs.Prelude.{map}
 use Rattle.std.specs.List.{range_with_len}
 use Rattle.taco_unit.specs.declared.kind.Kind.TheVariants.{Ref}
 use Rattle.taco_unit.specs.declared.stmt.Stmt.TheVariants as s
+use Rattle.taco_unit.specs.declared.unit.FieldDef.{FieldDef}
 use Rattle.heap_core.specs.declared.value.Value.{Value}
 use Rattle.heap_core.specs.declared.value.Value.TheVariants.{Null, Obj}
 use Rattle.heap_core.specs.declared.value.Object.{Object}
@@ -38,6 +39,24 @@ a b x = record { class = 0; cells = b ∷ x ∷ [] }
 
 abbrev b : Value → Value → Value → Object
 b y f g = record { class = 1; cells = y ∷ f ∷ g ∷ [] }
+
+-- a method of A without parameters, within six objects: 7 tuples of the receiver, 42 of each of five fields
+abbrev six : Posed
+six = record {
+  unit = record {
+    classes = record { name = []; fields = 0 ∷ 1 ∷ []; methods = 0 ∷ []; invariants = [] } ∷ record { name = []; fields = 2 ∷ 3 ∷ 4 ∷ []; methods = []; invariants = [] } ∷ [];
+    fields = link 0 1 ∷ link 0 1 ∷ link 1 0 ∷ link 1 0 ∷ link 1 0 ∷ [];
+    methods = record { name = []; class = 0; fixed = false; params = []; result = None; locals = []; needs = []; gives = []; body = s.Block [] } ∷ [];
+  };
+  method = 0;
+  scope = record { objects = 6; ints = 4; loops = 3; calls = 2 };
+}
+  where
+    link : ℕ → ℕ → FieldDef
+    link class to = record { name = []; class = class; kind = Ref to; nullable = true }
+
+all_six : length (tuples six) ≡ 217
+all_six = refl
 
 -- the heap of six objects, numbered by its visit
 abbrev crossed : Start

@@ -1,5 +1,5 @@
 -- How many tuples there are, and what stands at each place.
-use Rattle.std.proofs.Common.{◌≡◌, ◌≢◌, ℕ, zero, suc, ◌+◌, ◌-◌, ◌*◌, ◌<◌, ◌≤◌, List, [], ◌∷◌, ◌++◌, length, Option, Some, None, refl, ap, sym, ◌∙◌, arith, mul-le-mul_right, mul_comm, subst, get_or, ◌/◌, ◌%◌}
+use Rattle.std.proofs.Common.{◌≡◌, ◌≢◌, ℕ, zero, suc, ◌+◌, ◌-◌, ◌*◌, ◌<◌, ◌≤◌, List, [], length, Some, None, refl, ap, ◌∙◌, arith, mul-le-mul_right, mul_comm, subst, get_or, ◌/◌, ◌%◌}
 use Rattle.std.specs.Prelude.{map, flat_map, slice_get, option_map, count_by}
 use Rattle.std.specs.List.{range_with_len}
 use Rattle.std.specs.Option.{option_map_or}
@@ -103,3 +103,23 @@ link_there objects at links some within none =
     let inside : at / (objects * (objects + 1)) < length links = (div-lt_iff_lt-mul {k = objects * (objects + 1)} {x = at} {y = length links} positive).1 within in
     let there : slice_get links (at / (objects * (objects + 1))) ≡ Some (get_or links (at / (objects * (objects + 1))) 0) = slice_get-get_or links (at / (objects * (objects + 1))) 0 inside in
     cc
+
+-- ## the roots' tuples, then the fields'
+
+pub tuple_left : (p : Posed) (m : MethodDef) (at : ℕ) (t : Tuple) → method_of p ≡ Some m → at < length (roots_of m) * (p.scope.objects + 1) → slice_get (tuples_of_roots p.scope.objects (roots_of m)) at ≡ Some t → slice_get (tuples p) at ≡ Some t
+tuple_left p m at t there within is =
+    let inside : at < length (root_tuples p) = omega (arith, length-root_tuples p m there) in
+    let same : root_tuples p ≡ tuples_of_roots p.scope.objects (roots_of m) =
+    ap (λ o. tuples_of_roots p.scope.objects (option_map_or roots_of o [])) there
+    in
+    slice_get-append_left (root_tuples p) (field_tuples p) at inside ∙ ap (λ ts. slice_get ts at) same ∙ is
+
+pub tuple_right : (p : Posed) (m : MethodDef) (at : ℕ) (t : Tuple) → method_of p ≡ Some m → length (roots_of m) * (p.scope.objects + 1) ≤ at → slice_get (field_tuples p) (at - length (roots_of m) * (p.scope.objects + 1)) ≡ Some t → slice_get (tuples p) at ≡ Some t
+tuple_right p m at t there behind is =
+    let place : at ≡ length (root_tuples p) + (at - length (roots_of m) * (p.scope.objects + 1)) = omega (arith, length-root_tuples p m there) in
+    ap (slice_get (tuples p)) place ∙ slice_get-append_right (root_tuples p) (field_tuples p) (at - length (roots_of m) * (p.scope.objects + 1)) ∙ is
+
+pub right_within : (p : Posed) (m : MethodDef) (at : ℕ) → method_of p ≡ Some m → at < length (tuples p) → length (roots_of m) * (p.scope.objects + 1) ≤ at → at - length (roots_of m) * (p.scope.objects + 1) < length (links_of p.unit) * (p.scope.objects * (p.scope.objects + 1))
+right_within p m at there within behind =
+    let whole : length (tuples p) ≡ length (root_tuples p) + length (field_tuples p) = length-append (root_tuples p) (field_tuples p) in
+    omega (arith, whole, length-root_tuples p m there, length-field_tuples p)

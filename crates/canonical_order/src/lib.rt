@@ -4,4 +4,4 @@
 mod roots;
 mod tuple;
 
-pub use tuple::Tuple;
+pub use tuple::{Tuple, occurs, tuple_at, tuple_count};
