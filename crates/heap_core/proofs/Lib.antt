@@ -1,2 +1,6 @@
 pub mod EvalForms
 pub mod ExecForms
+pub mod Visiting
+pub mod Reach
+mod Rows
+mod Cases

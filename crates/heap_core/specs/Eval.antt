@@ -2,9 +2,9 @@
 --
 -- The value is that of Java's expression or of JML's, where there is one (Java Language Specification,
 -- "Evaluation Order"; JML Reference Manual, "Predicates and Specification Expressions"). This project's
--- own are the two other outcomes: Bad where null is read through (JML Reference Manual, "Undefinedness":
--- such a clause is not true), Out where a number leaves its width. What the kinds of a well unit rule
--- out is Out.
+-- own are the two other outcomes: Bad where null is read through (JML Reference Manual, "Expression
+-- Evaluation and Undefinedness": such a clause is not true), Out where a number leaves its width. What the
+-- kinds of a well unit rule out is Out.
 use Rattle.std.specs.Prelude.{ℕ, zero, suc, pos, Bool, true, false, not, ◌&&◌, ◌||◌, if◌then◌else◌, List, [], ◌∷◌, ◌++◌, count_by, slice_get, Option, Some, None}
 use Rattle.std.specs.List.{list_any, list_all, range_with_len}
 use Rattle.taco_unit.specs.declared.unit.ClassDef.{ClassDef}

@@ -1,9 +1,9 @@
 -- The judgement of a start.
 --
 -- The contract is a lightweight specification case, taken as `normal_behavior` (JML Reference Manual,
--- "Semantics of Lightweight Behavior Specification Cases" and "Semantics of Normal Behavior Specification
--- Cases"); invariants hold in the states before and after the call (JML Reference Manual, "Invariants");
--- a clause that is undefined is not true (JML Reference Manual, "Undefinedness"). That a start is not
+-- "Lightweight Specification Cases" and "Normal Behavior Specification Cases"); invariants hold in the states
+-- before and after the call (JML Reference Manual, "Invariants"); a clause that is undefined is not true (JML
+-- Reference Manual, "Expression Evaluation and Undefinedness"). That a start is not
 -- judged where a scope is left, and the order of the lines and of the parts, are this project's own.
 use Rattle.std.specs.Prelude.{◌≡◌, ℕ, Bool, false, not, ◌&&◌, ◌||◌, if◌then◌else◌, List, [], ◌∷◌, ◌++◌, length, map, slice_get, filter, filter_map, flat_map, zip, Option, Some, None}
 use Rattle.std.specs.List.{list_any, list_all, range_with_len, enumerate_from}
@@ -93,8 +93,8 @@ needs_of p s = option_map_or (λ m. values_of (entry_env p s) m.needs) (method_o
 abbrev pub gives_of : Posed → Start → Option Value → Heap → List Seen
 gives_of p s r heap = option_map_or (λ m. values_of (exit_env p s r heap) m.gives) (method_of p) []
 
--- a field, parameter or result that must not be null (JML Reference Manual, "Nullable and Non-null
--- Types": non-null is the default)
+-- a field, parameter or result that must not be null (JML Reference Manual, "Null is Not the
+-- Default")
 abbrev pub must_be_there : Kind → Bool → Bool
 must_be_there k nullable = is_class_kind k && not nullable
 

@@ -5,3 +5,5 @@ pub mod Eval
 pub mod Exec
 pub mod Start
 pub mod Judge
+pub mod Laws
+pub mod Stages

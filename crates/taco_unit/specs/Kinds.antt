@@ -1,6 +1,7 @@
--- The kind of an expression. (Java Language Specification, "Expressions": the types of operands, of
--- "Numerical Equality", "Boolean Equality" and "Reference Equality Operators", of "Field Access" and
--- of "Method Invocation"; JML Reference Manual, "Predicates and Specification Expressions".)
+-- The kind of an expression. (Java Language Specification, "Expressions": the types of operands, as in
+-- "Numerical Comparison Operators", "Numerical Equality Operators" and "Reference Equality Operators", of "Field
+-- Access Expressions" and of "Method Invocation Expressions"; JML Reference Manual, "Predicates and
+-- Specification Expressions".)
 use Rattle.std.specs.Prelude.{ℕ, Bool, true, false, ◌==◌, nat_lt, ◌&&◌, not, List, [], ◌∷◌, ◌++◌, length, slice_get, Option, Some, None}
 use Rattle.std.specs.List.{list_all}
 use Rattle.std.specs.Option.{option_map_or}

@@ -6,6 +6,8 @@ mod expr;
 mod kind;
 mod name;
 mod stmt;
+#[cfg(test)]
+mod tests;
 mod unit;
 
 pub use expr::{Call, Expr, Op, Quant, Reach};

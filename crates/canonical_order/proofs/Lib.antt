@@ -1,0 +1,4 @@
+pub mod Counting
+pub mod Ranges
+mod Rows
+pub mod TupleOrder

@@ -1,0 +1,7 @@
+//! The canonical order of a start's objects, and the tuples of a problem.
+#![tactic(auto)]
+
+mod roots;
+mod tuple;
+
+pub use tuple::{Tuple, occurs, tuple_at, tuple_count};
