@@ -1,4 +1,6 @@
+pub mod Literals
 pub mod LogLemmas
 pub mod Marked
+pub mod Numbers
 pub mod Once
 pub mod Sound

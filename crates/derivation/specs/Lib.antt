@@ -1,4 +1,6 @@
+pub mod Entry
 pub mod Logs
 pub mod Marks
 pub mod Propagation
 pub mod Step
+pub mod Texts

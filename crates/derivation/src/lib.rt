@@ -3,10 +3,12 @@
 
 mod checker;
 mod effect;
+mod entry;
 mod fault;
 mod laws;
 mod line;
 mod log;
+mod number;
 mod trues;
 
 pub use checker::{Checked, check};

@@ -1,0 +1,13 @@
+-- The words of a clause in a text.
+use Rattle.std.specs.Prelude.{◌≢◌, ℕ, ◌/◌, ◌≤◌}
+use Rattle.derivation.specs.declared.entry.Entry.{Entry}
+use Rattle.derivation.specs.declared.entry.Entry.TheVariants.{End, Literal}
+
+-- an entry as a number: a literal's own, and 0 for the end of the clause
+abbrev pub entry_number : Entry → ℕ
+entry_number End = 0
+entry_number (Literal lit) = lit
+
+-- An entry over the variables 1 to vars: a literal of one of them, or 0. (1 would be the negation of the variable 0.)
+abbrev pub IsEntry : ℕ → ℕ → Type 0
+IsEntry vars lit = (lit ≢ 1) × (lit / 2 ≤ vars)
