@@ -1,3 +1,4 @@
+pub mod CutLemmas
 pub mod Literals
 pub mod LogLemmas
 pub mod Marked

@@ -1,4 +1,6 @@
+pub mod Cuts
 pub mod Entry
+pub mod LogText
 pub mod Logs
 pub mod Marks
 pub mod Propagation

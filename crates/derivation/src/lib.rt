@@ -2,9 +2,11 @@
 #![tactic(auto)]
 
 mod checker;
+mod cut;
 mod effect;
 mod entry;
 mod fault;
+mod fields;
 mod laws;
 mod line;
 mod log;
