@@ -1,7 +1,10 @@
 pub mod CutLemmas
 pub mod Literals
 pub mod LogLemmas
+pub mod LogWords
 pub mod Marked
 pub mod Numbers
 pub mod Once
+pub mod Rising
+pub mod Sequences
 pub mod Sound

@@ -4,6 +4,8 @@ use Rattle.std.specs.List.{flat_map, join_with_byte}
 use Rattle.std.specs.List.Sorted.{IsStrictlyIncreasing}
 use Rattle.std.specs.Fmt.{decimal}
 use Rattle.cnf_core.specs.Literal.{IsOver}
+use Rattle.derivation.specs.declared.fault.TextFault.{TextFault}
+use Rattle.derivation.specs.declared.fault.TextFault.TheVariants.{BadText, NoMemory}
 use Rattle.derivation.specs.Step.{Step}
 use Rattle.derivation.specs.Texts.{literal_text}
 
@@ -47,3 +49,8 @@ pub record IsBadLine (vars : ℕ) (text : List ℕ) (at : ℕ) : Type 0 where
   pub place : at ≡ length (text_of_log front)
   pub some : rest ≢ []
   pub none : (step : Step) (more : List ℕ) → IsLine vars step → rest ≡ line_text step ++ more → ⊥
+
+-- What a refused text of a log has: its first wrong line. Want of memory says nothing.
+abbrev pub BlamesLine : ℕ → List ℕ → TextFault → Type 0
+BlamesLine vars text (BadText at) = IsBadLine vars text at
+BlamesLine vars text NoMemory = Unit {0}

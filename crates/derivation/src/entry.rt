@@ -1,5 +1,5 @@
 ghost use Rattle.std.specs.Prelude.{◌≡◌, ◌*◌, ◌/◌, ◌^◌, ◌<◌, ◌≤◌, ◌∷◌, ℕ, IfSome, IfNone, decimal};
-ghost use Rattle.derivation.specs.Entry.{entry_number, IsEntry};
+ghost use Rattle.derivation.specs.Entry.{entry_number, IsEntry, IsWithin};
 ghost use Rattle.derivation.specs.Texts.{literal_text};
 
 use cnf_core::Lit;
@@ -18,7 +18,7 @@ pub(crate) enum Entry {
 pub(crate) fn entry_of(bytes: &[u8], vars: u32) -> Option<Entry>
     requires { vars < 2 ^ 31 }
     ensures spelled { IfSome result (λ entry. bytes.now ≡ literal_text (entry_number entry)) }
-    ensures over { IfSome result (λ entry. IsEntry vars (entry_number entry)) }
+    ensures over { IfSome result (IsWithin vars) }
     ensures none { IfNone result ((lit : ℕ) → IsEntry vars lit → bytes.now ≡ literal_text lit → ⊥) }
 {
     let Some((first, rest)) = bytes.split_first() else {
@@ -35,7 +35,7 @@ pub(crate) fn entry_of(bytes: &[u8], vars: u32) -> Option<Entry>
 fn negative_of(bytes: &[u8], vars: u32) -> Option<Entry>
     requires { vars < 2 ^ 31 }
     ensures spelled { IfSome result (λ entry. 45 ∷ bytes.now ≡ literal_text (entry_number entry)) }
-    ensures over { IfSome result (λ entry. IsEntry vars (entry_number entry)) }
+    ensures over { IfSome result (IsWithin vars) }
     ensures none { IfNone result ((var : ℕ) → 0 < var → var ≤ vars → bytes.now ≡ decimal var → ⊥) }
 {
     match number_up_to(bytes, vars)? {
@@ -48,7 +48,7 @@ fn negative_of(bytes: &[u8], vars: u32) -> Option<Entry>
 fn positive_of(bytes: &[u8], vars: u32) -> Option<Entry>
     requires { vars < 2 ^ 31 }
     ensures spelled { IfSome result (λ entry. bytes.now ≡ literal_text (entry_number entry)) }
-    ensures over { IfSome result (λ entry. IsEntry vars (entry_number entry)) }
+    ensures over { IfSome result (IsWithin vars) }
     ensures none { IfNone result ((var : ℕ) → var ≤ vars → bytes.now ≡ decimal var → ⊥) }
 {
     match number_up_to(bytes, vars)? {

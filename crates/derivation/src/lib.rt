@@ -10,12 +10,13 @@ mod fields;
 mod laws;
 mod line;
 mod log;
+mod log_reader;
 mod number;
 mod trues;
 
 pub use checker::{Checked, check};
 pub use effect::Effect;
-pub use fault::CheckFault;
+pub use fault::{CheckFault, TextFault};
 pub use laws::what_follows_is_true;
 pub use line::Line;
 pub use log::Log;
