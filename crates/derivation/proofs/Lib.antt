@@ -1,4 +1,5 @@
 pub mod CutLemmas
+pub mod LineTexts
 pub mod Literals
 pub mod LogLemmas
 pub mod LogWords

@@ -12,10 +12,10 @@ pub none_gives : {T P Q : Type 0} (o : Option T) → IfNone o P → (P → Q) �
 none_gives None p f = f p
 none_gives (Some x) p f = tt
 
-negative_text : (lit : ℕ) → is_negative lit ≡ true → literal_text lit ≡ 45 ∷ decimal (lit / 2)
+pub negative_text : (lit : ℕ) → is_negative lit ≡ true → literal_text lit ≡ 45 ∷ decimal (lit / 2)
 negative_text lit is = cond-true (is_negative lit) _ _ is
 
-positive_text : (lit : ℕ) → is_negative lit ≡ false → literal_text lit ≡ decimal (lit / 2)
+pub positive_text : (lit : ℕ) → is_negative lit ≡ false → literal_text lit ≡ decimal (lit / 2)
 positive_text lit is = cond-false (is_negative lit) _ _ is
 
 -- a number does not begin with a minus

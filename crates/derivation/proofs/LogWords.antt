@@ -4,6 +4,7 @@ use Rattle.std.specs.Fmt.{decimal}
 use Rattle.std.specs.List.Sorted.{IsStrictlyIncreasing}
 use Rattle.std.proofs.lemmas.List.Elements.{All-head, All-tail}
 use Rattle.std.proofs.lemmas.Fmt.{decimal_injective}
+use Rattle.std.proofs.lemmas.List.{append-nil}
 use Rattle.cnf_core.specs.Literal.{IsOver}
 use Rattle.derivation.specs.Entry.{IsEntry}
 use Rattle.derivation.specs.LogText.{IsClause, AreHints}
@@ -75,3 +76,36 @@ next_rises vars before clause lit rest tail small is over h = by_later h.later h
         let over_x : IsOver vars x = all_behind (IsOver vars) before x xs (subst (All (IsOver vars)) numbers is.over) in
         let here : x ≡ lit = sym ((literal_words vars small).same lit x over over_x first) in
         rising_to before lit xs (subst (λ (c : List ℕ). IsStrictlyIncreasing (vars_of c)) (numbers ∙ ap (λ y. before ++ y ∷ xs) here) is.rising)
+
+-- the same for hints, behind which nothing stands
+pub hints_go : (before hints : List ℕ) (rest : List (List ℕ)) → AreHints before → AreHints hints
+    → map decimal before ++ rest ≡ map decimal (hints ++ 0 ∷ []) → Goes decimal before rest hints []
+hints_go before hints rest is_before is same = goes decimal _ hint_words before hints rest [] is_before is (same ∙ sym (append-nil _))
+
+pub no_end_hints : (before hints : List ℕ) (rest : List (List ℕ)) → rest ≡ [] → Goes decimal before rest hints [] → ⊥
+no_end_hints before hints rest none h = some h.later (sym none ∙ h.rest_is)
+  where
+    some : (later : List ℕ) → [] ≡ map decimal (later ++ 0 ∷ []) ++ [] → ⊥
+    some [] same = cc
+    some (x ∷ xs) same = cc
+
+pub next_number : (before hints : List ℕ) (word : List ℕ) (rest : List (List ℕ)) → AreHints hints → Goes decimal before (word ∷ rest) hints []
+    → ((n : ℕ) → n < 2 ^ 32 → word ≡ decimal n → ⊥) → ⊥
+next_number before hints word rest are h none = by_later h.later h.numbers_are h.rest_is
+  where
+    by_later : (later : List ℕ) → hints ≡ before ++ later → word ∷ rest ≡ map decimal (later ++ 0 ∷ []) ++ [] → ⊥
+    by_later [] numbers same =
+        let first : word ≡ decimal 0 = cc in
+        none 0 (omega arith) first
+    by_later (x ∷ xs) numbers same =
+        let first : word ≡ decimal x = cc in
+        none x (all_behind (λ hint. (0 < hint) × (hint < 2 ^ 32)) before x xs (subst AreHints numbers are)).1 first
+
+pub zero_ends : (before hints : List ℕ) (word : List ℕ) (rest : List (List ℕ)) → AreHints hints → Goes decimal before (decimal 0 ∷ word ∷ rest) hints [] → ⊥
+zero_ends before hints word rest are h = by_later h.later h.numbers_are h.rest_is
+  where
+    by_later : (later : List ℕ) → hints ≡ before ++ later → decimal 0 ∷ word ∷ rest ≡ map decimal (later ++ 0 ∷ []) ++ [] → ⊥
+    by_later [] numbers same = cc
+    by_later (x ∷ xs) numbers same =
+        let first : decimal x ≡ decimal 0 = cc in
+        hint_words.apart x (all_behind (λ hint. (0 < hint) × (hint < 2 ^ 32)) before x xs (subst AreHints numbers are)) first

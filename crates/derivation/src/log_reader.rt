@@ -13,7 +13,9 @@ use cnf_core::Lit;
 use crate::cut::cut_at;
 use crate::entry::{Entry, entry_of};
 use crate::fields::Fields;
+use crate::fault::TextFault;
 use crate::line::Line;
+use crate::log::Log;
 use crate::number::number_of;
 
 /// The literals up to the word `0`, which is taken off too.
@@ -51,4 +53,82 @@ fn comes_behind(clause: &[Lit], lit: Lit) -> bool
         Some(before) => before.var() < lit.var(),
         None => true,
     }
+}
+
+/// The hints up to the word `0`, which must be the last.
+fn hints_of(alloc: Global, words: &mut Fields<'_>) -> Result<Option<SmallVec<u32, 8>>, NoMemory>
+    ensures found { IfOk result (λ found. IfSome found (λ hints. AreHints hints.items × (words.old ≡ map decimal (hints.items ++ 0 ∷ [])))) }
+    ensures none { IfOk result (λ found. IfNone found ((hints : List ℕ) → AreHints hints → words.old ≡ map decimal (hints ++ 0 ∷ []) → ⊥)) }
+{
+    let mut hints = SmallVec::new(alloc);
+    loop {
+        let Some(word) = words.next() else {
+            return Ok(None);
+        };
+        let Some(number) = number_of(word) else {
+            return Ok(None);
+        };
+        if number == 0 {
+            let Some(_more) = words.next() else {
+                return Ok(Some(hints));
+            };
+            return Ok(None);
+        }
+        hints.push(number)?;
+    }
+}
+
+/// The line that these words are.
+fn line_of(alloc: Global, words: &mut Fields<'_>, vars: u32) -> Result<Option<Line>, NoMemory>
+    requires { vars < 2 ^ 31 }
+    ensures found { IfOk result (λ found. IfSome found (λ line. IsLine vars line × (words.old ≡ line_words line))) }
+    ensures none { IfOk result (λ found. IfNone found ((step : Step) → IsLine vars step → words.old ≡ line_words step → ⊥)) }
+{
+    let Some(clause) = clause_of(alloc, words, vars)? else {
+        return Ok(None);
+    };
+    let Some(hints) = hints_of(alloc, words)? else {
+        return Ok(None);
+    };
+    Ok(Some(Line { clause, hints }))
+}
+
+/// The line at the front of a text, and what stands behind it.
+fn first_line(alloc: Global, text: &[u8], vars: u32) -> Result<Option<(Line, &[u8])>, NoMemory>
+    requires { vars < 2 ^ 31 }
+    ensures found { IfOk result (λ found. IfSome found (λ x. IsLine vars x.0 × (text.now ≡ line_text x.0 ++ x.1.now))) }
+    ensures none { IfOk result (λ found. IfNone found ((step : Step) (more : List ℕ) → IsLine vars step → text.now ≡ line_text step ++ more → ⊥)) }
+{
+    let Some((front, behind)) = cut_at(text, b'\n') else {
+        return Ok(None);
+    };
+    let mut words = Fields::new(front);
+    let Some(line) = line_of(alloc, &mut words, vars)? else {
+        return Ok(None);
+    };
+    Ok(Some((line, behind)))
+}
+
+/// Reads a log: each line holds literals with rising variables, `0`, the numbers of its hints and
+/// `0`, parted by one space, and a line feed. `vars` is the greatest variable that is allowed. The
+/// cost is the text's length. `BadText` has the place of the first line that is not so, counted in
+/// bytes from 0.
+pub fn read_log(alloc: Global, text: &[u8], vars: u32) -> Result<Log, TextFault>
+    requires few { vars < 2 ^ 31 }
+    requires short { length text.now ≤ 67108864 }
+    ensures read { IfOk result (λ log. IsLogText vars text.now log) }
+    ensures fault { IfErr result (BlamesLine vars text.now) }
+{
+    let mut log = Log::new(alloc);
+    let mut rest = text;
+    while !rest.is_empty() {
+        let Some((line, behind)) = first_line(alloc, rest, vars)? else {
+            return Err(TextFault::BadText {
+                at: (text.len() - rest.len()) as u32,
+            });
+        };
+        log.push(line)?;
+        rest = behind;
+    }
+    Ok(log)
 }
