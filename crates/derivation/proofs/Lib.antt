@@ -1,6 +1,7 @@
 pub mod CutLemmas
 pub mod LineTexts
 pub mod Literals
+pub mod LogAgain
 pub mod LogLemmas
 pub mod LogWords
 pub mod Marked
@@ -9,3 +10,4 @@ pub mod Once
 pub mod Rising
 pub mod Sequences
 pub mod Sound
+pub mod Spaced

@@ -52,7 +52,7 @@ all_lack byte word [] low all = refl
 all_lack byte word (n ∷ ns) low all =
     and_from _ _ (lacks_low byte (word n) low (All-head (λ (m : ℕ). IsWord (word m)) n ns all)) (all_lack byte word ns low (All-tail (λ (m : ℕ). IsWord (word m)) n ns all))
 
-line_lacks : (byte vars : ℕ) (step : Step) → byte < 45 → vars < 2 ^ 31 → IsLine vars step → list_all (lacks byte) (line_words step) ≡ true
+pub line_lacks : (byte vars : ℕ) (step : Step) → byte < 45 → vars < 2 ^ 31 → IsLine vars step → list_all (lacks byte) (line_words step) ≡ true
 line_lacks byte vars step low small is =
     list_all-append (lacks byte) (map literal_text (step.clause ++ 0 ∷ [])) (map decimal (step.hints ++ 0 ∷ []))
     ∙ and_from _ _

@@ -4,5 +4,6 @@ pub mod LogText
 pub mod Logs
 pub mod Marks
 pub mod Propagation
+pub mod Reading
 pub mod Step
 pub mod Texts

@@ -13,6 +13,7 @@ mod log;
 mod log_reader;
 mod number;
 mod trues;
+mod writer;
 
 pub use checker::{Checked, check};
 pub use effect::Effect;
@@ -20,3 +21,5 @@ pub use fault::{CheckFault, TextFault};
 pub use laws::what_follows_is_true;
 pub use line::Line;
 pub use log::Log;
+pub use log_reader::read_log;
+pub use writer::log_text;

@@ -1,6 +1,7 @@
 ghost use Rattle.std.specs.Prelude.{◌≡◌, ℕ, ◌+◌, ◌/◌, ◌^◌, ◌<◌, ◌≤◌, ◌↔◌, List, [], ◌∷◌, ◌++◌, All, length, map, IsTrue, IfOk, IfSome, IfNone, IfErr, MatchOption, decimal};
 ghost use Rattle.std.specs.List.Sorted.{IsStrictlyIncreasing};
 ghost use Rattle.derivation.specs.LogText.{AreHints, BlamesLine, IsClause, IsLine, IsLogText, line_text, line_words};
+ghost use Rattle.derivation.specs.Reading.{IsReadAs};
 ghost use Rattle.derivation.specs.Step.{Step};
 ghost use Rattle.derivation.specs.Texts.{literal_text};
 
@@ -114,6 +115,19 @@ fn first_line(alloc: Global, text: &[u8], vars: u32) -> Result<Option<(Line, &[u
 /// cost is the text's length. `BadText` has the place of the first line that is not so, counted in
 /// bytes from 0.
 pub fn read_log(alloc: Global, text: &[u8], vars: u32) -> Result<Log, TextFault>
+    requires few { vars < 2 ^ 31 }
+    requires short { length text.now ≤ 67108864 }
+    ensures read { IfOk result (λ log. IsLogText vars text.now log) }
+    ensures fault { IfErr result (BlamesLine vars text.now) }
+
+    // A text that is that of a log is read, and as this log.
+    ensures again { (steps : List Step) → IsLogText vars text.now steps → IsReadAs result steps }
+{
+    lines_of(alloc, text, vars)
+}
+
+/// The lines of a text, up to the first that is wrong.
+fn lines_of(alloc: Global, text: &[u8], vars: u32) -> Result<Log, TextFault>
     requires few { vars < 2 ^ 31 }
     requires short { length text.now ≤ 67108864 }
     ensures read { IfOk result (λ log. IsLogText vars text.now log) }

@@ -1,6 +1,6 @@
 use Rattle.std.proofs.Common.{◌≡◌, ◌++◌, All, length}
 use Rattle.derivation.specs.LogText.{IsLine, text_of_log}
-use Rattle.derivation.proofs.log_reader.read_log.Given as goal
+use Rattle.derivation.proofs.log_reader.lines_of.Given as goal
 
 -- the lines read are right, and the rest of the text stands behind them
 abbrev pub invariant-loop-rest : goal.invariant-loop-rest

@@ -1,0 +1,73 @@
+ghost use Rattle.std.specs.Prelude.{◌≡◌, [], ◌∷◌, ◌++◌, map, IfOk, OnOk, decimal};
+ghost use Rattle.derivation.specs.LogText.{line_text, text_of_log};
+ghost use Rattle.derivation.specs.Texts.{literal_text, spaced};
+
+use itoa::Buffer;
+use no_memory::NoMemory;
+use std::alloc::Global;
+
+use cnf_core::Lit;
+
+use crate::line::Line;
+use crate::log::Log;
+
+/// The text of a log: each line holds its literals, `0`, its hints and `0`, parted by one space, and
+/// a line feed. The cost is the text's length.
+pub fn log_text(alloc: Global, log: &Log) -> Result<Vec<u8>, NoMemory>
+    ensures { IfOk result (λ text. text.items ≡ text_of_log log.now) }
+{
+    let mut text = Vec::new(alloc);
+    for line in log.lines() {
+        push_line(&mut text, line)?;
+    }
+    Ok(text)
+}
+
+fn push_line(text: &mut Vec<u8>, line: &Line) -> Result<(), NoMemory>
+    ensures { OnOk result (text.new.items ≡ text.old.items ++ line_text line.now) }
+{
+    push_literals(text, line.clause.as_slice())?;
+    text.extend_from_slice(b"0 ")?;
+    push_numbers(text, line.hints.as_slice())?;
+    text.extend_from_slice(b"0\n")?;
+    Ok(())
+}
+
+/// Writes each literal with a space behind it.
+pub(crate) fn push_literals(text: &mut Vec<u8>, lits: &[Lit]) -> Result<(), NoMemory>
+    ensures { OnOk result (text.new.items ≡ text.old.items ++ spaced (map literal_text lits.now)) }
+{
+    for lit in lits {
+        push_literal(text, *lit)?;
+        text.push(b' ')?;
+    }
+    Ok(())
+}
+
+/// Writes each number with a space behind it.
+fn push_numbers(text: &mut Vec<u8>, numbers: &[u32]) -> Result<(), NoMemory>
+    ensures { OnOk result (text.new.items ≡ text.old.items ++ spaced (map decimal numbers.now)) }
+{
+    for number in numbers {
+        push_number(text, *number)?;
+        text.push(b' ')?;
+    }
+    Ok(())
+}
+
+fn push_literal(text: &mut Vec<u8>, lit: Lit) -> Result<(), NoMemory>
+    ensures { OnOk result (text.new.items ≡ text.old.items ++ literal_text lit) }
+{
+    if lit.is_negative() {
+        text.push(b'-')?;
+    }
+    push_number(text, lit.var())
+}
+
+pub(crate) fn push_number(text: &mut Vec<u8>, number: u32) -> Result<(), NoMemory>
+    ensures { OnOk result (text.new.items ≡ text.old.items ++ decimal number) }
+{
+    let mut buffer = Buffer::new();
+    text.extend_from_slice(buffer.format(number).as_bytes())?;
+    Ok(())
+}
