@@ -8,6 +8,7 @@ pub mod Marked
 pub mod Numbers
 pub mod Once
 pub mod Rising
+pub mod RunLemmas
 pub mod Sequences
 pub mod Sound
 pub mod Spaced

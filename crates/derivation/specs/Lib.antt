@@ -5,5 +5,6 @@ pub mod Logs
 pub mod Marks
 pub mod Propagation
 pub mod Reading
+pub mod Runs
 pub mod Step
 pub mod Texts

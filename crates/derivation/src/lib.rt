@@ -2,6 +2,7 @@
 #![tactic(auto)]
 
 mod checker;
+mod comment;
 mod cut;
 mod effect;
 mod entry;
@@ -13,6 +14,7 @@ mod log;
 mod log_reader;
 mod number;
 mod trues;
+mod words;
 mod writer;
 
 pub use checker::{Checked, check};
