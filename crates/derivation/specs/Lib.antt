@@ -1,3 +1,4 @@
+pub mod CnfText
 pub mod Cuts
 pub mod Entry
 pub mod LogText
@@ -6,5 +7,6 @@ pub mod Marks
 pub mod Propagation
 pub mod Reading
 pub mod Runs
+pub mod Slots
 pub mod Step
 pub mod Texts

@@ -2,6 +2,7 @@
 #![tactic(auto)]
 
 mod checker;
+mod cnf_reader;
 mod comment;
 mod cut;
 mod effect;
