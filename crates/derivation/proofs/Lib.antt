@@ -1,4 +1,5 @@
 pub mod CutLemmas
+pub mod Headers
 pub mod LineTexts
 pub mod Literals
 pub mod LogAgain

@@ -103,3 +103,21 @@ fn has_line_end(gap: &[u8]) -> bool
     }
     false
 }
+
+/// What the header says.
+struct Header {
+    vars: u32,
+    clauses: u32,
+}
+
+/// Takes off the four words of the header.
+fn header_of(words: &mut Words<'_>, end: u32) -> Result<Header, TextFault>
+    ensures found { IfOk result (λ header. IsHeader header.vars header.clauses words.old words.new) }
+    ensures fault { IfErr result (BlamesWords words.old end) }
+{
+    take_named(words, b"p", true, end)?;
+    take_named(words, b"cnf", false, end)?;
+    let vars = take_count(words, end)?;
+    let clauses = take_count(words, end)?;
+    Ok(Header { vars, clauses })
+}
