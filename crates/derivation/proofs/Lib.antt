@@ -1,3 +1,4 @@
+pub mod Bodies
 pub mod CutLemmas
 pub mod Headers
 pub mod LineTexts

@@ -43,7 +43,7 @@ no_end before clause rest tail none h = some h.later (sym none ∙ h.rest_is)
     some [] same = cc
     some (x ∷ xs) same = cc
 
-all_behind : (P : ℕ → Type 0) (before : List ℕ) (x : ℕ) (xs : List ℕ) → All P (before ++ x ∷ xs) → P x
+pub all_behind : (P : ℕ → Type 0) (before : List ℕ) (x : ℕ) (xs : List ℕ) → All P (before ++ x ∷ xs) → P x
 all_behind P [] x xs all = All-head P x xs all
 all_behind P (y ∷ ys) x xs all = all_behind P ys x xs (All-tail P y (ys ++ x ∷ xs) all)
 

@@ -45,3 +45,12 @@ pub record IsHeader (vars count : ℕ) (words after : List Run) : Type 0 where
   pub blanks : IsTrue (list_all is_blank cnf.gap && (list_all is_blank first.gap && list_all is_blank second.gap))
   pub few_vars : vars ≤ 1000000
   pub few_clauses : count ≤ 1000000
+
+-- The words before these are the entries of the clauses, as many as the header says.
+pub record IsBody (vars count : ℕ) (words after : List Run) (clauses : List (List ℕ)) : Type 0 where
+  pub middle : List Run
+  pub parts : words ≡ middle ++ after
+  pub same : spelling middle ≡ map literal_text (entries clauses)
+  pub line : IsTrue (in_line 0 middle)
+  pub over : All (λ clause. All (IsOver vars) clause) clauses
+  pub number : length clauses ≡ count
