@@ -9,12 +9,15 @@ use Rattle.std.proofs.lemmas.List.{append_assoc, append-nil, map-append, length-
 use Rattle.std.proofs.lemmas.List.Elements.{All-head, All-tail, All-append, All-cons, All-nil, All-replicate}
 use Rattle.cnf_core.specs.Clauses.{Clauses}
 use Rattle.cnf_core.specs.Literal.{IsOver}
-use Rattle.derivation.specs.CnfText.{IsSmall, entries, cnf_words, spelling, in_line, placed, Spell, Begin, closes}
-use Rattle.derivation.specs.Entry.{IsEntry}
+use Rattle.derivation.specs.CnfText.{IsSmall, entries, cnf_words, spelling, in_line, placed, Spell, Begin, closes, BlamesWords}
+use Rattle.derivation.specs.declared.fault.TextFault.{TextFault}
+use Rattle.derivation.specs.declared.entry.Entry.{Entry}
+use Rattle.derivation.specs.declared.entry.Entry.TheVariants.{End, Literal}
+use Rattle.derivation.specs.Entry.{IsEntry, IsWithin, entry_number, Puts}
 use Rattle.derivation.specs.Runs.{Run, is_blank, is_line_end}
-use Rattle.derivation.specs.Slots.{IsNextEntry, IsHeader, IsBody}
+use Rattle.derivation.specs.Slots.{IsNextEntry, IsHeader, IsBody, Misses}
 use Rattle.derivation.specs.Texts.{literal_text}
-use Rattle.derivation.proofs.Headers.{HeadAt}
+use Rattle.derivation.proofs.Headers.{HeadAt, missed}
 use Rattle.derivation.proofs.Literals.{literal_injective}
 use Rattle.derivation.proofs.LogWords.{all_behind}
 
@@ -273,3 +276,163 @@ body_at {vars} {count} h done pending s left first at_first =
               and_parts (list_all is_blank h.first.gap) (list_all is_blank h.second.gap && list_any is_line_end word.gap) one.1 in
         (and_parts (list_all is_blank h.second.gap) (list_any is_line_end word.gap) two.1).1
     own_line (m ∷ ms) word header none = absurd (let e : m ∷ ms ≡ [] = none in cc)
+
+-- nothing is read yet
+pub so_far_start : (vars count : ℕ) (words : List Run) → IsSoFar vars count words words [] []
+so_far_start vars count words =
+    record {
+      middle = [];
+      parts = refl;
+      same = refl;
+      line = refl;
+      done_over = All-nil (λ (clause : List ℕ). All (IsOver vars) clause);
+      pending_over = All-nil (IsOver vars);
+      room = omega arith;
+      ended = λ _. refl;
+    }
+
+-- whether nothing is read yet
+abbrev pub at_start : List (List ℕ) → List ℕ → Bool
+at_start done pending = (length done == 0) && (length pending == 0)
+
+pub starts : {vars count : ℕ} {old now : List Run} (done : List (List ℕ)) (pending : List ℕ) (s : IsSoFar vars count old now done pending) → at_start done pending ≡ true → s.middle ≡ []
+starts done pending s is = by_middle s.middle (s.same ∙ none done pending is)
+  where
+    none : (cs : List (List ℕ)) (ns : List ℕ) → at_start cs ns ≡ true → map literal_text (entries_with cs ns) ≡ []
+    none [] [] h = refl
+    none [] (n ∷ ns) h = absurd (false≢true (sym (ne_eqb (length (n ∷ ns)) 0 (λ e. absurd (omega arith))) ∙ h))
+    none (c ∷ cs) ns h =
+        absurd (false≢true (sym (ne_eqb (length (c ∷ cs)) 0 (λ e. absurd (omega arith))) ∙ (and_parts (length (c ∷ cs) == 0) (length ns == 0) h).0))
+    by_middle : (ms : List Run) → spelling ms ≡ [] → ms ≡ []
+    by_middle [] e = refl
+    by_middle (m ∷ ms) e = cc
+
+pub start_is : {vars count : ℕ} {old now : List Run} (done : List (List ℕ)) (pending : List ℕ) (s : IsSoFar vars count old now done pending) → s.middle ≡ [] → at_start done pending ≡ true
+start_is done pending s none = by_parts done pending (ap spelling (sym none) ∙ s.same)
+  where
+    by_parts : (cs : List (List ℕ)) (ns : List ℕ) → [] ≡ map literal_text (entries_with cs ns) → at_start cs ns ≡ true
+    by_parts [] [] e = refl
+    by_parts [] (n ∷ ns) e = cc
+    by_parts ([] ∷ cs) ns e = cc
+    by_parts ((n ∷ c) ∷ cs) ns e = cc
+
+-- one word more
+more_line : (middle : List Run) (word : Run) → in_line 0 middle ≡ true → (middle ≡ [] → list_any is_line_end word.gap ≡ true) → in_line 0 (middle ++ word ∷ []) ≡ true
+more_line [] word line own = own refl
+more_line (m ∷ ms) word line own = line
+
+more_words : (middle now now' old : List Run) (word : Run) → old ≡ middle ++ now → now ≡ word ∷ now' → old ≡ (middle ++ word ∷ []) ++ now'
+more_words middle now now' old word parts is = parts ∙ ap (λ ws. middle ++ ws) is ∙ sym (append_assoc middle (word ∷ []) now')
+
+more_spelled : (middle : List Run) (word : Run) (numbers : List ℕ) (number : ℕ) → spelling middle ≡ map literal_text numbers → word.bytes ≡ literal_text number
+    → spelling (middle ++ word ∷ []) ≡ map literal_text (numbers ++ number ∷ [])
+more_spelled middle word numbers number same is =
+    map-append (λ (w : Run). w.bytes) middle (word ∷ []) ∙ ap (λ ws. ws ++ word.bytes ∷ []) same ∙ ap (λ b. map literal_text numbers ++ b ∷ []) is
+    ∙ sym (map-append literal_text numbers (number ∷ []))
+
+pub so_far_literal : {vars count : ℕ} {old now : List Run} (done : List (List ℕ)) (pending : List ℕ) (s : IsSoFar vars count old now done pending) (now' : List Run) (word : Run) (lit : ℕ)
+    → now ≡ word ∷ now' → word.bytes ≡ literal_text lit → IsOver vars lit → length done < count → (at_start done pending ≡ true → list_any is_line_end word.gap ≡ true)
+    → IsSoFar vars count old now' done (pending ++ lit ∷ [])
+so_far_literal {vars} {count} {old} {now} done pending s now' word lit is spelled_is over left own =
+    record {
+      middle = s.middle ++ word ∷ [];
+      parts = more_words s.middle now now' old word s.parts is;
+      same = more_spelled s.middle word (entries_with done pending) lit s.same spelled_is ∙ ap (map literal_text) (append_assoc (entries done) pending (lit ∷ []));
+      line = more_line s.middle word s.line (λ none. own (start_is done pending s none));
+      done_over = s.done_over;
+      pending_over = All-append (IsOver vars) pending (lit ∷ []) s.pending_over (All-cons (IsOver vars) lit [] over (All-nil (IsOver vars)));
+      room = s.room;
+      ended = λ e. absurd (omega arith);
+    }
+
+pub so_far_end : {vars count : ℕ} {old now : List Run} (done : List (List ℕ)) (pending : List ℕ) (s : IsSoFar vars count old now done pending) (now' : List Run) (word : Run)
+    → now ≡ word ∷ now' → word.bytes ≡ literal_text 0 → length done < count → (at_start done pending ≡ true → list_any is_line_end word.gap ≡ true)
+    → IsSoFar vars count old now' (done ++ pending ∷ []) []
+so_far_end {vars} {count} {old} {now} done pending s now' word is spelled_is left own =
+    record {
+      middle = s.middle ++ word ∷ [];
+      parts = more_words s.middle now now' old word s.parts is;
+      same = more_spelled s.middle word (entries_with done pending) 0 s.same spelled_is ∙ ap (map literal_text) (sym (regrouped (entries done) pending) ∙ ap (λ ns. ns ++ []) (sym (flat_map-append (λ clause. clause ++ 0 ∷ []) done (pending ∷ []))));
+      line = more_line s.middle word s.line (λ none. own (start_is done pending s none));
+      done_over = All-append (λ (clause : List ℕ). All (IsOver vars) clause) done (pending ∷ []) s.done_over
+        (All-cons (λ (clause : List ℕ). All (IsOver vars) clause) pending [] s.pending_over (All-nil (λ (clause : List ℕ). All (IsOver vars) clause)));
+      pending_over = All-nil (IsOver vars);
+      room = omega (arith, length-append done (pending ∷ []));
+      ended = λ _. refl;
+    }
+  where
+    regrouped : (a b : List ℕ) → (a ++ ((b ++ 0 ∷ []) ++ [])) ++ [] ≡ (a ++ b) ++ 0 ∷ []
+    regrouped a b = simp (append_assoc, append-nil)
+
+-- all clauses are read
+pub so_far_body : {vars count : ℕ} {old now : List Run} (done : List (List ℕ)) (pending : List ℕ) (s : IsSoFar vars count old now done pending) → length done ≡ count → IsBody vars count old now done
+so_far_body done pending s all =
+    record {
+      middle = s.middle;
+      parts = s.parts;
+      same = s.same ∙ ap (λ ns. map literal_text (entries done ++ ns)) (s.ended all) ∙ ap (map literal_text) (append-nil (entries done));
+      line = s.line;
+      over = s.done_over;
+      number = all;
+    }
+
+-- the words of a header and its clauses spell the formula
+pub whole_spelled : {vars count : ℕ} {words after now : List Run} (h : IsHeader vars count words after) (clauses : List (List ℕ)) (b : IsBody vars count after now clauses)
+    → Spell (behind_header h b.middle) (record { vars = vars; clauses = clauses })
+whole_spelled {vars} {count} h clauses b =
+    let formula : Clauses = record { vars = vars; clauses = clauses } in
+    let words : cnf_words formula ≡ spelling (behind_header h b.middle) ++ [] =
+          spelled h b.middle formula refl b.number [] (sym b.same ∙ sym (append-nil (spelling b.middle))) in
+    record {
+      small = small_with vars clauses count h.few_vars h.few_clauses b.number b.over;
+      same = sym (append-nil (spelling (behind_header h b.middle))) ∙ sym words;
+      header = lined h b.middle b.line;
+    }
+
+body_so_far : {vars count : ℕ} {old now : List Run} (clauses : List (List ℕ)) (b : IsBody vars count old now clauses) → IsSoFar vars count old now clauses []
+body_so_far {vars} clauses b =
+    record {
+      middle = b.middle;
+      parts = b.parts;
+      same = b.same ∙ ap (map literal_text) (sym (append-nil (entries clauses)));
+      line = b.line;
+      done_over = b.over;
+      pending_over = All-nil (IsOver vars);
+      room = omega (arith, b.number);
+      ended = λ _. refl;
+    }
+
+-- and no formula's words go on behind them
+pub whole_ends : {vars count : ℕ} {words after now : List Run} (h : IsHeader vars count words after) (clauses : List (List ℕ)) (b : IsBody vars count after now clauses) (word : Run)
+    → Begin (behind_header h b.middle ++ word ∷ []) → ⊥
+unfolding body_so_far
+whole_ends {vars} {count} h clauses b word begin =
+    let g : IsGoing vars count (entries_with clauses []) word.bytes = going h clauses [] (body_so_far clauses b) word begin in
+    let same : entries g.formula.clauses ≡ entries clauses ++ g.next ∷ g.later = g.numbers_are ∙ ap (λ ns. ns ++ g.next ∷ g.later) (append-nil (entries clauses)) in
+    let ends : ends_zero (g.next ∷ g.later) ≡ true = sym (ends_behind (entries clauses) g.next g.later) ∙ ap ends_zero (sym same) ∙ ends_entries g.formula.clauses in
+    absurd (omega (arith, ap zeros same, zeros_append (entries clauses) (g.next ∷ g.later), zeros_entries vars clauses b.over, zeros_entries vars g.formula.clauses g.over, g.number, b.number,
+      some_zero g.next g.later ends))
+
+-- an entry more, put to the others
+pub so_far_put : {vars count : ℕ} {old now : List Run} (done : List (List ℕ)) (pending : List ℕ) (s : IsSoFar vars count old now done pending) (now' : List Run) (word : Run) (entry : Entry)
+    (done' : List (List ℕ)) (pending' : List ℕ) → now ≡ word ∷ now' → word.bytes ≡ literal_text (entry_number entry) → IsWithin vars entry → length done < count
+    → (at_start done pending ≡ true → list_any is_line_end word.gap ≡ true) → Puts entry done pending done' pending' → IsSoFar vars count old now' done' pending'
+so_far_put {vars} {count} {old} done pending s now' word End done' pending' is spelled_is within left own puts =
+    subst (λ (ds : List (List ℕ)). IsSoFar vars count old now' ds pending') (sym puts.0)
+    (subst (λ (ps : List ℕ). IsSoFar vars count old now' (done ++ pending ∷ []) ps) (sym puts.1) (so_far_end done pending s now' word is spelled_is left own))
+so_far_put {vars} {count} {old} done pending s now' word (Literal lit) done' pending' is spelled_is within left own puts =
+    subst (λ (ds : List (List ℕ)). IsSoFar vars count old now' ds pending') (sym puts.0)
+    (subst (λ (ps : List ℕ). IsSoFar vars count old now' done ps) (sym puts.1) (so_far_literal done pending s now' word lit is spelled_is within left own))
+
+-- the words of the header, then those read, then the rest
+pub whole_parts : {vars count : ℕ} {words after : List Run} (h : IsHeader vars count words after) (middle now : List Run) → after ≡ middle ++ now → words ≡ behind_header h middle ++ now
+whole_parts h middle now parts = h.parts ∙ ap (λ ws. h.p ∷ h.cnf ∷ h.first ∷ h.second ∷ ws) parts
+
+-- where an entry is missed, it is the fault of the whole
+pub entry_missed : {vars count : ℕ} {old now : List Run} (done : List (List ℕ)) (pending : List ℕ) (s : IsSoFar vars count old now done pending) (given end : ℕ) (first : Bool) (fault : TextFault)
+    → given ≡ vars → length done < count → first ≡ at_start done pending → Misses (IsNextEntry given first) now end fault → (whole : List Run) → IsHeader vars count whole old → BlamesWords whole end fault
+entry_missed {vars} {count} {old} {now} done pending s given end first fault same left first_is misses whole h =
+    missed (IsNextEntry vars first) (behind_header h s.middle) now whole end fault
+    (body_at h done pending s left first (λ e. starts done pending s (sym first_is ∙ e)))
+    (whole_parts h s.middle now s.parts)
+    (subst (λ (n : ℕ). Misses (IsNextEntry n first) now end fault) same misses)

@@ -1,9 +1,10 @@
-ghost use Rattle.std.specs.Prelude.{◌≡◌, ℕ, ◌<◌, ◌≤◌, ◌||◌, List, [], ◌∷◌, ◌++◌, length, codes, IsTrue, IfOk, IfErr, OnOk, decimal};
+ghost use Rattle.std.specs.Prelude.{◌≡◌, ℕ, ◌<◌, ◌≤◌, ◌==◌, ◌&&◌, ◌||◌, List, [], ◌∷◌, ◌++◌, All, length, codes, IsTrue, IfOk, IfErr, OnOk, decimal};
 ghost use Rattle.std.specs.List.{list_all, list_any};
+ghost use Rattle.cnf_core.specs.Literal.{IsOver};
 ghost use Rattle.derivation.specs.CnfText.{BlamesCnf, BlamesWords, closes, AreOf, IsCnfText};
-ghost use Rattle.derivation.specs.Entry.{entry_number, IsWithin};
+ghost use Rattle.derivation.specs.Entry.{entry_number, IsWithin, Puts};
 ghost use Rattle.derivation.specs.Runs.{is_blank, is_line_end, Run};
-ghost use Rattle.derivation.specs.Slots.{IsCount, IsHeader, IsNamed, IsNextEntry, Misses};
+ghost use Rattle.derivation.specs.Slots.{IsBody, IsCount, IsHeader, IsNamed, IsNextEntry, Misses};
 ghost use Rattle.derivation.specs.Texts.{literal_text};
 
 use no_memory::NoMemory;
@@ -105,6 +106,7 @@ fn has_line_end(gap: &[u8]) -> bool
 }
 
 /// What the header says.
+#[derive(Clone, Copy)]
 struct Header {
     vars: u32,
     clauses: u32,
@@ -120,4 +122,77 @@ fn header_of(words: &mut Words<'_>, end: u32) -> Result<Header, TextFault>
     let vars = take_count(words, end)?;
     let clauses = take_count(words, end)?;
     Ok(Header { vars, clauses })
+}
+
+/// Adds the clauses that the words are, as many as the header says.
+fn fill(cnf: &mut Cnf, alloc: Global, words: &mut Words<'_>, count: u32, end: u32) -> Result<(), TextFault>
+    requires vars { cnf.old.vars ≤ 1000000 }
+    requires none { cnf.old.clauses ≡ [] }
+    ensures found { OnOk result (IsBody cnf.old.vars count words.old words.new cnf.new.clauses) }
+    ensures same { OnOk result (cnf.new.vars ≡ cnf.old.vars) }
+    ensures fault { IfErr result (λ fault. (whole : List Run) → IsHeader cnf.old.vars count whole words.old → BlamesWords whole end fault) }
+{
+    let mut pending = Vec::new(alloc);
+    while cnf.clauses() < count {
+        let first = is_at_start(cnf, pending.as_slice());
+        let entry = take_entry(words, cnf.vars(), first, end)?;
+        put(cnf, &mut pending, entry)?;
+    }
+    Ok(())
+}
+
+/// Adds a literal to the clause that is begun, or ends this clause.
+fn put(cnf: &mut Cnf, pending: &mut Vec<Lit>, entry: Entry) -> Result<(), NoMemory>
+    requires { All (IsOver cnf.old.vars) pending.old.items }
+    ensures put { OnOk result (Puts entry cnf.old.clauses pending.old.items cnf.new.clauses pending.new.items) }
+    ensures vars { OnOk result (cnf.new.vars ≡ cnf.old.vars) }
+{
+    match entry {
+        Entry::End => {
+            cnf.push_clause(pending.as_slice())?;
+            pending.clear();
+        }
+        Entry::Literal(lit) => pending.push(lit)?,
+    }
+    Ok(())
+}
+
+/// Whether no entry is read yet.
+fn is_at_start(cnf: &Cnf, pending: &[Lit]) -> bool
+    ensures { result ≡ ((length cnf.now.clauses == 0) && (length pending.now == 0)) }
+{
+    cnf.clauses() == 0 && pending.is_empty()
+}
+
+/// The formula of a text, or its first fault.
+fn formula_of(alloc: Global, text: &[u8]) -> Result<Cnf, TextFault>
+    requires { length text.now ≤ 67108864 }
+    ensures read { IfOk result (IsCnfText text.now) }
+    ensures fault { IfErr result (BlamesCnf text.now) }
+{
+    let plain = without_comments(alloc, text)?;
+    let mut words = Words::new(plain.as_slice());
+    let end = text.len() as u32;
+    let header = header_of(&mut words, end)?;
+    let mut cnf = Cnf::new(alloc, header.vars);
+    fill(&mut cnf, alloc, &mut words, header.clauses, end)?;
+    let Some(word) = words.next() else {
+        return Ok(cnf);
+    };
+    if !is_closing(&word) {
+        return Err(TextFault::BadText {
+            at: word.at as u32,
+        });
+    }
+    Ok(cnf)
+}
+
+/// Whether the word begins with `%` at the start of its line.
+fn is_closing(word: &Word<'_>) -> bool
+    ensures { result ≡ closes word.now }
+{
+    match (word.bytes.first(), word.gap.last()) {
+        (Some(first), Some(last)) => *first == b'%' && ends_line(*last),
+        _ => false,
+    }
 }

@@ -1,4 +1,4 @@
-ghost use Rattle.std.specs.Prelude.{◌≡◌, IfOk};
+ghost use Rattle.std.specs.Prelude.{◌≡◌, length, IfOk};
 ghost use Rattle.derivation.specs.Runs.{in_comment, is_blank, is_line_end, is_white, spot_behind, uncommented};
 ghost use Rattle.derivation.specs.declared.comment.Spot.TheVariants.{LineStart as line_start};
 
@@ -17,7 +17,8 @@ pub(crate) enum Spot {
 
 /// The text with a space for each byte of its comment lines, which begin with `c`.
 pub(crate) fn without_comments(alloc: Global, text: &[u8]) -> Result<Vec<u8>, NoMemory>
-    ensures { IfOk result (λ plain. plain.items ≡ uncommented line_start text.now) }
+    ensures shown { IfOk result (λ plain. plain.items ≡ uncommented line_start text.now) }
+    ensures size { IfOk result (λ plain. length plain.items ≡ length text.now) }
 {
     let mut plain = Vec::new(alloc);
     let mut spot = Spot::LineStart;
