@@ -9,7 +9,7 @@ use Rattle.std.proofs.lemmas.List.{append_assoc, append-nil, map-append, length-
 use Rattle.std.proofs.lemmas.List.Elements.{All-head, All-tail, All-append, All-cons, All-nil, All-replicate}
 use Rattle.cnf_core.specs.Clauses.{Clauses}
 use Rattle.cnf_core.specs.Literal.{IsOver}
-use Rattle.derivation.specs.CnfText.{IsSmall, entries, cnf_words, spelling, in_line, placed, Spell, Begin, closes, BlamesWords}
+use Rattle.derivation.specs.CnfText.{IsSmall, entries, cnf_words, spelling, in_line, placed, Spell, Begin, closes, IsClosing, AreOf, IsWrongWord, BlamesWords}
 use Rattle.derivation.specs.declared.fault.TextFault.{TextFault}
 use Rattle.derivation.specs.declared.entry.Entry.{Entry}
 use Rattle.derivation.specs.declared.entry.Entry.TheVariants.{End, Literal}
@@ -436,3 +436,41 @@ entry_missed {vars} {count} {old} {now} done pending s given end first fault sam
     (body_at h done pending s left first (λ e. starts done pending s (sym first_is ∙ e)))
     (whole_parts h s.middle now s.parts)
     (subst (λ (n : ℕ). Misses (IsNextEntry n first) now end fault) same misses)
+
+-- the same header and clauses, where their words and their number of variables are told by other names
+pub header_as : {vars count : ℕ} {words after : List Run} (h : IsHeader vars count words after) (vars' : ℕ) (words' : List Run) → vars ≡ vars' → words ≡ words' → IsHeader vars' count words' after
+header_as {vars} {count} {words} {after} h vars' words' same_vars same_words =
+    subst (λ (n : ℕ). IsHeader n count words' after) same_vars (subst (λ (ws : List Run). IsHeader vars count ws after) same_words h)
+
+pub body_as : {vars count : ℕ} {old now : List Run} (clauses : List (List ℕ)) (b : IsBody vars count old now clauses) (vars' : ℕ) → vars ≡ vars' → IsBody vars' count old now clauses
+body_as {vars} {count} {old} {now} clauses b vars' same = subst (λ (n : ℕ). IsBody n count old now clauses) same b
+
+-- behind all clauses another word is wrong, unless it ends the reading
+pub ends_wrong : {vars count : ℕ} {words after now : List Run} (h : IsHeader vars count words after) (clauses : List (List ℕ)) (b : IsBody vars count after now clauses) (word : Run) (rest : List Run)
+    → now ≡ word ∷ rest → closes word ≡ false → IsWrongWord words word.at
+ends_wrong h clauses b word rest is stays =
+    record {
+      front = behind_header h b.middle;
+      word = word;
+      rest = rest;
+      parts = whole_parts h b.middle _ b.parts ∙ ap (λ ws. behind_header h b.middle ++ ws) is;
+      place = refl;
+      before = begins_whole (whole_spelled h clauses b);
+      with_it = whole_ends h clauses b word;
+      reading = λ v spell ends. false≢true (sym stays ∙ ends);
+    }
+  where
+    begins_whole : {ws : List Run} {v : Clauses} → Spell ws v → Begin ws
+    begins_whole {ws} {v} spell = record { formula = v; more = []; small = spell.small; same = sym spell.same ∙ sym (append-nil (spelling ws)); header = spell.header }
+
+-- where such a word or none is there, the words are those of the formula
+pub ends_right : {vars count : ℕ} {words after now : List Run} (h : IsHeader vars count words after) (clauses : List (List ℕ)) (b : IsBody vars count after now clauses) → IsClosing now
+    → AreOf words (record { vars = vars; clauses = clauses })
+ends_right {vars} {count} {words} {after} {now} h clauses b closed =
+    record {
+      front = behind_header h b.middle;
+      closing = now;
+      parts = whole_parts h b.middle now b.parts;
+      spelled = whole_spelled h clauses b;
+      closed = closed;
+    }
