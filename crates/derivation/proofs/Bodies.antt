@@ -80,14 +80,14 @@ some_zero y [] ends = omega (arith, ap one_if ends)
 some_zero y (z ∷ zs) ends = omega (arith, some_zero z zs ends)
 
 -- each entry of clauses is one
-entries_are : (vars : ℕ) (clauses : List (List ℕ)) → AreOver vars clauses → All (IsEntry vars) (entries clauses)
+pub entries_are : (vars : ℕ) (clauses : List (List ℕ)) → AreOver vars clauses → All (IsEntry vars) (entries clauses)
 entries_are vars [] over = All-nil (IsEntry vars)
 entries_are vars (c ∷ cs) over =
     All-append (IsEntry vars) (c ++ 0 ∷ []) (entries cs)
     (All-append (IsEntry vars) c (0 ∷ [])
-      (λ k d within. let here : IsOver vars (get_or c k d) = All-head (λ (clause : List ℕ). All (IsOver vars) clause) c cs over k d within in
-        (λ e. absurd (omega (arith, here.0, ap (λ n. n / 2) e)), here.1))
-      (All-cons (IsEntry vars) 0 [] (λ e. absurd (omega arith), omega arith) (All-nil (IsEntry vars))))
+    (λ k d within. let here : IsOver vars (get_or c k d) = All-head (λ (clause : List ℕ). All (IsOver vars) clause) c cs over k d within in
+    (λ e. absurd (omega (arith, here.0, ap (λ n. n / 2) e)), here.1))
+    (All-cons (IsEntry vars) 0 [] (λ e. absurd (omega arith), omega arith) (All-nil (IsEntry vars))))
     (entries_are vars cs (All-tail (λ (clause : List ℕ). All (IsOver vars) clause) c cs over))
 
 -- the numbers that words spell are the only ones, and the next word spells the next number
@@ -163,9 +163,9 @@ spelled {vars} {count} h middle v vars_are count_is more same =
 lined : {vars count : ℕ} {words after : List Run} (h : IsHeader vars count words after) (middle : List Run) → in_line 0 middle ≡ true → placed (behind_header h middle) ≡ true
 lined h middle line =
     let one : (list_all is_blank h.cnf.gap ≡ true) × ((list_all is_blank h.first.gap && list_all is_blank h.second.gap) ≡ true) =
-          and_parts (list_all is_blank h.cnf.gap) (list_all is_blank h.first.gap && list_all is_blank h.second.gap) h.blanks in
+    and_parts (list_all is_blank h.cnf.gap) (list_all is_blank h.first.gap && list_all is_blank h.second.gap) h.blanks in
     let two : (list_all is_blank h.first.gap ≡ true) × (list_all is_blank h.second.gap ≡ true) =
-          and_parts (list_all is_blank h.first.gap) (list_all is_blank h.second.gap) one.1 in
+    and_parts (list_all is_blank h.first.gap) (list_all is_blank h.second.gap) one.1 in
     and_from _ _ one.0 (and_from _ _ two.0 (and_from _ _ two.1 line))
 
 small_with : (vars : ℕ) (clauses : List (List ℕ)) (count : ℕ) → vars ≤ 1000000 → count ≤ 1000000 → length clauses ≡ count → AreOver vars clauses
@@ -194,11 +194,11 @@ going {vars} {count} h done pending s word begin =
     let count_is : length begin.formula.clauses ≡ count = decimal_injective _ _ (omega (arith, begin.small.count)) (omega (arith, h.few_clauses)) (b ∙ h.second_is) in
     let over : AreOver vars begin.formula.clauses = subst (λ (n : ℕ). AreOver n begin.formula.clauses) vars_are begin.small.over in
     let words : map literal_text (entries begin.formula.clauses) ≡ map literal_text (entries_with done pending) ++ word.bytes ∷ begin.more =
-          rest ∙ ap (λ ws. ws ++ begin.more) (map-append (λ (w : Run). w.bytes) s.middle (word ∷ [])) ∙ append_assoc (spelling s.middle) (word.bytes ∷ []) begin.more
-          ∙ ap (λ ws. ws ++ word.bytes ∷ begin.more) s.same in
+    rest ∙ ap (λ ws. ws ++ begin.more) (map-append (λ (w : Run). w.bytes) s.middle (word ∷ [])) ∙ append_assoc (spelling s.middle) (word.bytes ∷ []) begin.more
+    ∙ ap (λ ws. ws ++ word.bytes ∷ begin.more) s.same in
     let all : All (IsEntry vars) (entries begin.formula.clauses) = entries_are vars begin.formula.clauses over in
     let g : GoesOn (entries_with done pending) (entries begin.formula.clauses) word.bytes =
-          entries_go _ _ word.bytes begin.more (told_entries vars _ h.few_vars (so_far_entries vars done pending s.done_over s.pending_over)) (told_entries vars _ h.few_vars all) words in
+    entries_go _ _ word.bytes begin.more (told_entries vars _ h.few_vars (so_far_entries vars done pending s.done_over s.pending_over)) (told_entries vars _ h.few_vars all) words in
     record {
       formula = begin.formula;
       over = over;
@@ -222,8 +222,8 @@ spelt {vars} {count} h done pending s v spell =
     let count_is : length v.clauses ≡ count = decimal_injective _ _ (omega (arith, spell.small.count)) (omega (arith, h.few_clauses)) (b ∙ h.second_is) in
     let over : AreOver vars v.clauses = subst (λ (n : ℕ). AreOver n v.clauses) vars_are spell.small.over in
     let same : entries v.clauses ≡ entries_with done pending =
-          same_numbers _ _ (told_entries vars _ h.few_vars (entries_are vars v.clauses over))
-          (told_entries vars _ h.few_vars (so_far_entries vars done pending s.done_over s.pending_over)) (rest ∙ s.same) in
+    same_numbers _ _ (told_entries vars _ h.few_vars (entries_are vars v.clauses over))
+    (told_entries vars _ h.few_vars (so_far_entries vars done pending s.done_over s.pending_over)) (rest ∙ s.same) in
     omega (arith, ap zeros same, zeros_entries vars v.clauses over, zeros_append (entries done) pending, zeros_entries vars done s.done_over, no_zeros vars pending s.pending_over)
 
 filled_number : (n : ℕ) (pending : List ℕ) → length (filled (suc n) pending) ≡ suc n
@@ -237,14 +237,14 @@ begins {vars} {count} h done pending s left room =
     let more : List (List ℕ) = map literal_text (0 ∷ entries (replicate left [])) in
     let number : length clauses ≡ count = length-append done (filled (suc left) pending) ∙ ap (λ n. length done + n) (filled_number left pending) ∙ room in
     let over : AreOver vars clauses =
-          All-append (λ (clause : List ℕ). All (IsOver vars) clause) done (filled (suc left) pending) s.done_over
-          (All-cons (λ (clause : List ℕ). All (IsOver vars) clause) pending (replicate left []) s.pending_over
-            (All-replicate (λ (clause : List ℕ). All (IsOver vars) clause) left [] (All-nil (IsOver vars)))) in
+    All-append (λ (clause : List ℕ). All (IsOver vars) clause) done (filled (suc left) pending) s.done_over
+    (All-cons (λ (clause : List ℕ). All (IsOver vars) clause) pending (replicate left []) s.pending_over
+    (All-replicate (λ (clause : List ℕ). All (IsOver vars) clause) left [] (All-nil (IsOver vars)))) in
     let numbers : entries clauses ≡ entries_with done pending ++ (0 ∷ entries (replicate left [])) =
-          flat_map-append (λ clause. clause ++ 0 ∷ []) done (filled (suc left) pending)
-          ∙ regrouped (entries done) pending (entries (replicate left [])) in
+    flat_map-append (λ clause. clause ++ 0 ∷ []) done (filled (suc left) pending)
+    ∙ regrouped (entries done) pending (entries (replicate left [])) in
     let same : map literal_text (entries clauses) ≡ spelling s.middle ++ more =
-          ap (map literal_text) numbers ∙ map-append literal_text (entries_with done pending) (0 ∷ entries (replicate left [])) ∙ ap (λ ws. ws ++ more) (sym s.same) in
+    ap (map literal_text) numbers ∙ map-append literal_text (entries_with done pending) (0 ∷ entries (replicate left [])) ∙ ap (λ ws. ws ++ more) (sym s.same) in
     record {
       formula = formula;
       more = more;
@@ -263,17 +263,17 @@ body_at {vars} {count} h done pending s left first at_first =
     record {
       before = begins h done pending s (count - length done - 1) (omega arith);
       next = λ word begin.
-        let g : IsGoing vars count (entries_with done pending) word.bytes = going h done pending s word begin in
-        (g.next, g.entry, g.word_is, λ is_first. own_line s.middle word begin.header (at_first is_first));
+          let g : IsGoing vars count (entries_with done pending) word.bytes = going h done pending s word begin in
+          (g.next, g.entry, g.word_is, λ is_first. own_line s.middle word begin.header (at_first is_first));
       longer = λ v spell. absurd (omega (arith, spelt h done pending s v spell));
     }
   where
     own_line : (middle : List Run) (word : Run) → placed (behind_header h middle ++ word ∷ []) ≡ true → middle ≡ [] → list_any is_line_end word.gap ≡ true
     own_line [] word header none =
         let one : (list_all is_blank h.cnf.gap ≡ true) × ((list_all is_blank h.first.gap && (list_all is_blank h.second.gap && list_any is_line_end word.gap)) ≡ true) =
-              and_parts (list_all is_blank h.cnf.gap) (list_all is_blank h.first.gap && (list_all is_blank h.second.gap && list_any is_line_end word.gap)) header in
+        and_parts (list_all is_blank h.cnf.gap) (list_all is_blank h.first.gap && (list_all is_blank h.second.gap && list_any is_line_end word.gap)) header in
         let two : (list_all is_blank h.first.gap ≡ true) × ((list_all is_blank h.second.gap && list_any is_line_end word.gap) ≡ true) =
-              and_parts (list_all is_blank h.first.gap) (list_all is_blank h.second.gap && list_any is_line_end word.gap) one.1 in
+        and_parts (list_all is_blank h.first.gap) (list_all is_blank h.second.gap && list_any is_line_end word.gap) one.1 in
         (and_parts (list_all is_blank h.second.gap) (list_any is_line_end word.gap) two.1).1
     own_line (m ∷ ms) word header none = absurd (let e : m ∷ ms ≡ [] = none in cc)
 
@@ -303,6 +303,7 @@ starts done pending s is = by_middle s.middle (s.same ∙ none done pending is)
     none [] (n ∷ ns) h = absurd (false≢true (sym (ne_eqb (length (n ∷ ns)) 0 (λ e. absurd (omega arith))) ∙ h))
     none (c ∷ cs) ns h =
         absurd (false≢true (sym (ne_eqb (length (c ∷ cs)) 0 (λ e. absurd (omega arith))) ∙ (and_parts (length (c ∷ cs) == 0) (length ns == 0) h).0))
+
     by_middle : (ms : List Run) → spelling ms ≡ [] → ms ≡ []
     by_middle [] e = refl
     by_middle (m ∷ ms) e = cc
@@ -355,7 +356,7 @@ so_far_end {vars} {count} {old} {now} done pending s now' word is spelled_is lef
       same = more_spelled s.middle word (entries_with done pending) 0 s.same spelled_is ∙ ap (map literal_text) (sym (regrouped (entries done) pending) ∙ ap (λ ns. ns ++ []) (sym (flat_map-append (λ clause. clause ++ 0 ∷ []) done (pending ∷ []))));
       line = more_line s.middle word s.line (λ none. own (start_is done pending s none));
       done_over = All-append (λ (clause : List ℕ). All (IsOver vars) clause) done (pending ∷ []) s.done_over
-        (All-cons (λ (clause : List ℕ). All (IsOver vars) clause) pending [] s.pending_over (All-nil (λ (clause : List ℕ). All (IsOver vars) clause)));
+          (All-cons (λ (clause : List ℕ). All (IsOver vars) clause) pending [] s.pending_over (All-nil (λ (clause : List ℕ). All (IsOver vars) clause)));
       pending_over = All-nil (IsOver vars);
       room = omega (arith, length-append done (pending ∷ []));
       ended = λ _. refl;
@@ -382,7 +383,7 @@ pub whole_spelled : {vars count : ℕ} {words after now : List Run} (h : IsHeade
 whole_spelled {vars} {count} h clauses b =
     let formula : Clauses = record { vars = vars; clauses = clauses } in
     let words : cnf_words formula ≡ spelling (behind_header h b.middle) ++ [] =
-          spelled h b.middle formula refl b.number [] (sym b.same ∙ sym (append-nil (spelling b.middle))) in
+    spelled h b.middle formula refl b.number [] (sym b.same ∙ sym (append-nil (spelling b.middle))) in
     record {
       small = small_with vars clauses count h.few_vars h.few_clauses b.number b.over;
       same = sym (append-nil (spelling (behind_header h b.middle))) ∙ sym words;
@@ -410,8 +411,16 @@ whole_ends {vars} {count} h clauses b word begin =
     let g : IsGoing vars count (entries_with clauses []) word.bytes = going h clauses [] (body_so_far clauses b) word begin in
     let same : entries g.formula.clauses ≡ entries clauses ++ g.next ∷ g.later = g.numbers_are ∙ ap (λ ns. ns ++ g.next ∷ g.later) (append-nil (entries clauses)) in
     let ends : ends_zero (g.next ∷ g.later) ≡ true = sym (ends_behind (entries clauses) g.next g.later) ∙ ap ends_zero (sym same) ∙ ends_entries g.formula.clauses in
-    absurd (omega (arith, ap zeros same, zeros_append (entries clauses) (g.next ∷ g.later), zeros_entries vars clauses b.over, zeros_entries vars g.formula.clauses g.over, g.number, b.number,
-      some_zero g.next g.later ends))
+    absurd (omega (
+      arith,
+      ap zeros same,
+      zeros_append (entries clauses) (g.next ∷ g.later),
+      zeros_entries vars clauses b.over,
+      zeros_entries vars g.formula.clauses g.over,
+      g.number,
+      b.number,
+      some_zero g.next g.later ends,
+    ))
 
 -- an entry more, put to the others
 pub so_far_put : {vars count : ℕ} {old now : List Run} (done : List (List ℕ)) (pending : List ℕ) (s : IsSoFar vars count old now done pending) (now' : List Run) (word : Run) (entry : Entry)

@@ -25,20 +25,20 @@ pub missed : (P : Run → Type 0) (front words whole : List Run) (end : ℕ) (fa
 missed P front words whole end NoMemory head parts misses = tt
 missed P front words whole end (BadText at) head parts misses =
     elim misses.why [
-      inl none ↦
-        let all : whole ≡ front = parts ∙ ap (λ ws. front ++ ws) none.0 ∙ append-nil front in
-        inr (record { place = none.1; before = rw all head.before; unfinished = λ v spell. head.longer v (rw all at spell) })
-    | inr (word, rest, is, place, other) ↦
-        inl (record {
-          front = front;
-          word = word;
-          rest = rest;
-          parts = parts ∙ ap (λ ws. front ++ ws) is;
-          place = place;
-          before = head.before;
-          with_it = λ begin. other (head.next word begin);
-          reading = λ v spell _. head.longer v spell;
-        })
+      | inl none ↦
+          let all : whole ≡ front = parts ∙ ap (λ ws. front ++ ws) none.0 ∙ append-nil front in
+          inr (record { place = none.1; before = rw all head.before; unfinished = λ v spell. head.longer v (rw all at spell) })
+      | inr (word, rest, is, place, other) ↦
+          inl (record {
+            front = front;
+            word = word;
+            rest = rest;
+            parts = parts ∙ ap (λ ws. front ++ ws) is;
+            place = place;
+            before = head.before;
+            with_it = λ begin. other (head.next word begin);
+            reading = λ v spell _. head.longer v spell;
+          })
     ]
 
 -- a formula with no variable and no clause
@@ -56,9 +56,9 @@ pub head_first : HeadAt [] (IsNamed (codes "p") true)
 head_first = record {
   before = record { formula = none; more = cnf_words none; small = small_over 0 (lit≤ tt); same = refl; header = refl };
   next = λ word begin.
-    let same : cnf_words begin.formula ≡ word.bytes ∷ begin.more = begin.same in
-    let here : word.bytes ≡ codes "p" = cc in
-    (here, refl);
+      let same : cnf_words begin.formula ≡ word.bytes ∷ begin.more = begin.same in
+      let here : word.bytes ≡ codes "p" = cc in
+      (here, refl);
   longer = λ v spell. let same : [] ≡ cnf_words v = spell.same in cc;
 }
 
@@ -72,9 +72,9 @@ head_second p p_is = record {
     header = refl;
   };
   next = λ word begin.
-    let same : cnf_words begin.formula ≡ p.bytes ∷ word.bytes ∷ begin.more = begin.same in
-    let here : word.bytes ≡ codes "cnf" = cc in
-    (here, (and_parts (list_all is_blank word.gap) true begin.header).0);
+      let same : cnf_words begin.formula ≡ p.bytes ∷ word.bytes ∷ begin.more = begin.same in
+      let here : word.bytes ≡ codes "cnf" = cc in
+      (here, (and_parts (list_all is_blank word.gap) true begin.header).0);
   longer = λ v spell. let same : p.bytes ∷ [] ≡ cnf_words v = spell.same in cc;
 }
 
@@ -88,10 +88,13 @@ head_third p cnf p_is cnf_is blank = record {
     header = and_from (list_all is_blank cnf.gap) true blank refl;
   };
   next = λ word begin.
-    let same : cnf_words begin.formula ≡ p.bytes ∷ cnf.bytes ∷ word.bytes ∷ begin.more = begin.same in
-    let here : word.bytes ≡ decimal begin.formula.vars = cc in
-    (begin.formula.vars, begin.small.vars, here,
-      (and_parts (list_all is_blank word.gap) true (and_parts (list_all is_blank cnf.gap) (list_all is_blank word.gap && true) begin.header).1).0);
+      let same : cnf_words begin.formula ≡ p.bytes ∷ cnf.bytes ∷ word.bytes ∷ begin.more = begin.same in
+      let here : word.bytes ≡ decimal begin.formula.vars = cc in (
+        begin.formula.vars,
+        begin.small.vars,
+        here,
+        (and_parts (list_all is_blank word.gap) true (and_parts (list_all is_blank cnf.gap) (list_all is_blank word.gap && true) begin.header).1).0,
+      );
   longer = λ v spell. let same : p.bytes ∷ cnf.bytes ∷ [] ≡ cnf_words v = spell.same in cc;
 }
 
@@ -103,17 +106,20 @@ head_fourth p cnf first vars p_is cnf_is blank first_is blank_first few = record
     more = decimal 0 ∷ [];
     small = small_over vars few;
     same =
-      ap (λ b. b ∷ codes "cnf" ∷ decimal vars ∷ decimal 0 ∷ []) (sym p_is)
-      ∙ ap (λ b. p.bytes ∷ b ∷ decimal vars ∷ decimal 0 ∷ []) (sym cnf_is)
-      ∙ ap (λ b. p.bytes ∷ cnf.bytes ∷ b ∷ decimal 0 ∷ []) (sym first_is);
+        ap (λ b. b ∷ codes "cnf" ∷ decimal vars ∷ decimal 0 ∷ []) (sym p_is)
+        ∙ ap (λ b. p.bytes ∷ b ∷ decimal vars ∷ decimal 0 ∷ []) (sym cnf_is)
+        ∙ ap (λ b. p.bytes ∷ cnf.bytes ∷ b ∷ decimal 0 ∷ []) (sym first_is);
     header = and_from (list_all is_blank cnf.gap) (list_all is_blank first.gap && true) blank (and_from (list_all is_blank first.gap) true blank_first refl);
   };
   next = λ word begin.
-    let same : cnf_words begin.formula ≡ p.bytes ∷ cnf.bytes ∷ first.bytes ∷ word.bytes ∷ begin.more = begin.same in
-    let here : word.bytes ≡ decimal (length begin.formula.clauses) = cc in
-    let gaps : (list_all is_blank cnf.gap ≡ true) × ((list_all is_blank first.gap && (list_all is_blank word.gap && true)) ≡ true) =
-          and_parts (list_all is_blank cnf.gap) (list_all is_blank first.gap && (list_all is_blank word.gap && true)) begin.header in
-    (length begin.formula.clauses, begin.small.count, here,
-      (and_parts (list_all is_blank word.gap) true (and_parts (list_all is_blank first.gap) (list_all is_blank word.gap && true) gaps.1).1).0);
+      let same : cnf_words begin.formula ≡ p.bytes ∷ cnf.bytes ∷ first.bytes ∷ word.bytes ∷ begin.more = begin.same in
+      let here : word.bytes ≡ decimal (length begin.formula.clauses) = cc in
+      let gaps : (list_all is_blank cnf.gap ≡ true) × ((list_all is_blank first.gap && (list_all is_blank word.gap && true)) ≡ true) =
+      and_parts (list_all is_blank cnf.gap) (list_all is_blank first.gap && (list_all is_blank word.gap && true)) begin.header in (
+        length begin.formula.clauses,
+        begin.small.count,
+        here,
+        (and_parts (list_all is_blank word.gap) true (and_parts (list_all is_blank first.gap) (list_all is_blank word.gap && true) gaps.1).1).0,
+      );
   longer = λ v spell. let same : p.bytes ∷ cnf.bytes ∷ first.bytes ∷ [] ≡ cnf_words v = spell.same in cc;
 }

@@ -1,4 +1,5 @@
 pub mod Bodies
+pub mod CnfAgain
 pub mod CutLemmas
 pub mod Headers
 pub mod LineTexts

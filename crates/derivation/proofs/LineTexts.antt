@@ -35,8 +35,8 @@ number_word n small = record { high = λ i within. omega (arith, (decimal_digits
 pub literal_word : (lit : ℕ) → lit / 2 < 2 ^ 64 → IsWord (literal_text lit)
 literal_word lit small =
     elim (cases_Bool (is_negative lit)) [
-      inl negative ↦ subst IsWord (sym (negative_text lit negative)) (signed (decimal (lit / 2)) (number_word (lit / 2) small))
-    | inr positive ↦ subst IsWord (sym (positive_text lit positive)) (number_word (lit / 2) small)
+      | inl negative ↦ subst IsWord (sym (negative_text lit negative)) (signed (decimal (lit / 2)) (number_word (lit / 2) small))
+      | inr positive ↦ subst IsWord (sym (positive_text lit positive)) (number_word (lit / 2) small)
     ]
   where
     signed : (bytes : List ℕ) → IsWord bytes → IsWord (45 ∷ bytes)
@@ -56,14 +56,14 @@ pub line_lacks : (byte vars : ℕ) (step : Step) → byte < 45 → vars < 2 ^ 31
 line_lacks byte vars step low small is =
     list_all-append (lacks byte) (map literal_text (step.clause ++ 0 ∷ [])) (map decimal (step.hints ++ 0 ∷ []))
     ∙ and_from _ _
-      (all_lack byte literal_text (step.clause ++ 0 ∷ []) low
-        (All-append (λ (m : ℕ). IsWord (literal_text m)) step.clause (0 ∷ [])
-          (λ k d within. literal_word (get_or step.clause k d) (omega (arith, (is.clause.over k d within).1)))
-          (All-cons (λ (m : ℕ). IsWord (literal_text m)) 0 [] (literal_word 0 (omega arith)) (All-nil (λ (m : ℕ). IsWord (literal_text m))))))
-      (all_lack byte decimal (step.hints ++ 0 ∷ []) low
-        (All-append (λ (m : ℕ). IsWord (decimal m)) step.hints (0 ∷ [])
-          (λ k d within. number_word (get_or step.hints k d) (omega (arith, (is.hints k d within).1)))
-          (All-cons (λ (m : ℕ). IsWord (decimal m)) 0 [] (number_word 0 (omega arith)) (All-nil (λ (m : ℕ). IsWord (decimal m))))))
+    (all_lack byte literal_text (step.clause ++ 0 ∷ []) low
+    (All-append (λ (m : ℕ). IsWord (literal_text m)) step.clause (0 ∷ [])
+    (λ k d within. literal_word (get_or step.clause k d) (omega (arith, (is.clause.over k d within).1)))
+    (All-cons (λ (m : ℕ). IsWord (literal_text m)) 0 [] (literal_word 0 (omega arith)) (All-nil (λ (m : ℕ). IsWord (literal_text m))))))
+    (all_lack byte decimal (step.hints ++ 0 ∷ []) low
+    (All-append (λ (m : ℕ). IsWord (decimal m)) step.hints (0 ∷ [])
+    (λ k d within. number_word (get_or step.hints k d) (omega (arith, (is.hints k d within).1)))
+    (All-cons (λ (m : ℕ). IsWord (decimal m)) 0 [] (number_word 0 (omega arith)) (All-nil (λ (m : ℕ). IsWord (decimal m))))))
 
 split_words : (words : List (List ℕ)) → (words ≡ [] → ⊥) → list_all (lacks 32) words ≡ true → slice_split (λ b. b == 32) (join_with_byte 32 words) ≡ words
 split_words [] some none = absurd (some refl)
@@ -86,7 +86,7 @@ pub front_line : (vars : ℕ) (text front behind : List ℕ) (step : Step) (more
 front_line vars text front behind step more small cut is same =
     let joined : lacks 10 (join_with_byte 32 (line_words step)) ≡ true = lacks_joined 10 (line_words step) refl (line_lacks 10 vars step (omega arith) small is) in
     let cuts : front ++ 10 ∷ behind ≡ join_with_byte 32 (line_words step) ++ 10 ∷ more =
-          sym cut.parts ∙ same ∙ append_assoc (join_with_byte 32 (line_words step)) (10 ∷ []) more in
+    sym cut.parts ∙ same ∙ append_assoc (join_with_byte 32 (line_words step)) (10 ∷ []) more in
     let h : SameCut front (join_with_byte 32 (line_words step)) behind more = same_cut 10 front (join_with_byte 32 (line_words step)) behind more cut.first joined cuts in
     record {
       words = ap (slice_split (λ b. b == 32)) h.front ∙ split_words (line_words step) (some_words step) (line_lacks 32 vars step (omega arith) small is);

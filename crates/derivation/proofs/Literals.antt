@@ -33,33 +33,33 @@ pub record IsNegative (lit : ℕ) (rest : List ℕ) : Type 0 where
 pub minus_first : (lit : ℕ) (rest : List ℕ) → lit / 2 < 2 ^ 64 → 45 ∷ rest ≡ literal_text lit → IsNegative lit rest
 minus_first lit rest small is =
     elim (cases_Bool (is_negative lit)) [
-      inl negative ↦ record { sign = negative; digits = ap (drop 1) (is ∙ negative_text lit negative) }
-    | inr positive ↦ absurd (no_minus (lit / 2) rest small (is ∙ positive_text lit positive))
+      | inl negative ↦ record { sign = negative; digits = ap (drop 1) (is ∙ negative_text lit negative) }
+      | inr positive ↦ absurd (no_minus (lit / 2) rest small (is ∙ positive_text lit positive))
     ]
 
 -- no text of a literal is empty
 pub some_text : (lit : ℕ) → lit / 2 < 2 ^ 64 → 0 < length (literal_text lit)
 some_text lit small =
     elim (cases_Bool (is_negative lit)) [
-      inl negative ↦ omega (arith, ap length (negative_text lit negative))
-    | inr positive ↦ omega (arith, ap length (positive_text lit positive), decimal_nonempty (lit / 2) small)
+      | inl negative ↦ omega (arith, ap length (negative_text lit negative))
+      | inr positive ↦ omega (arith, ap length (positive_text lit positive), decimal_nonempty (lit / 2) small)
     ]
 
 -- no two literals have one text
 pub literal_injective : (x y : ℕ) → x / 2 < 2 ^ 64 → y / 2 < 2 ^ 64 → literal_text x ≡ literal_text y → x ≡ y
 literal_injective x y small_x small_y same =
     elim (cases_Bool (is_negative x)) [
-      inl negative ↦
-        let h : IsNegative y (decimal (x / 2)) = minus_first y (decimal (x / 2)) small_y (sym (negative_text x negative) ∙ same) in
-        let half : x / 2 ≡ y / 2 = decimal_injective (x / 2) (y / 2) small_x small_y h.digits in
-        omega (arith, eqb-true (x % 2) 1 negative, eqb-true (y % 2) 1 h.sign)
-    | inr positive ↦
-        elim (cases_Bool (is_negative y)) [
-          inl negative_y ↦ absurd (no_minus (x / 2) (decimal (y / 2)) small_x (sym (sym (positive_text x positive) ∙ same ∙ negative_text y negative_y)))
-        | inr positive_y ↦
-            let half : x / 2 ≡ y / 2 = decimal_injective (x / 2) (y / 2) small_x small_y (sym (positive_text x positive) ∙ same ∙ positive_text y positive_y) in
-            let odd_x : x % 2 ≢ 1 = eqb-false (x % 2) 1 positive in
-            let odd_y : y % 2 ≢ 1 = eqb-false (y % 2) 1 positive_y in
-            omega arith
-        ]
+      | inl negative ↦
+          let h : IsNegative y (decimal (x / 2)) = minus_first y (decimal (x / 2)) small_y (sym (negative_text x negative) ∙ same) in
+          let half : x / 2 ≡ y / 2 = decimal_injective (x / 2) (y / 2) small_x small_y h.digits in
+          omega (arith, eqb-true (x % 2) 1 negative, eqb-true (y % 2) 1 h.sign)
+      | inr positive ↦
+          elim (cases_Bool (is_negative y)) [
+            | inl negative_y ↦ absurd (no_minus (x / 2) (decimal (y / 2)) small_x (sym (sym (positive_text x positive) ∙ same ∙ negative_text y negative_y)))
+            | inr positive_y ↦
+                let half : x / 2 ≡ y / 2 = decimal_injective (x / 2) (y / 2) small_x small_y (sym (positive_text x positive) ∙ same ∙ positive_text y positive_y) in
+                let odd_x : x % 2 ≢ 1 = eqb-false (x % 2) 1 positive in
+                let odd_y : y % 2 ≢ 1 = eqb-false (y % 2) 1 positive_y in
+                omega arith
+          ]
     ]

@@ -22,9 +22,9 @@ use Rattle.derivation.proofs.Sequences.{SameFront, same_front}
 same_line : (vars : ℕ) (x y : Step) → vars < 2 ^ 31 → IsLine vars x → IsLine vars y → line_words x ≡ line_words y → x ≡ y
 same_line vars x y small is_x is_y same =
     let h : SameFront literal_text (IsOver vars) (literal_words vars small) x.clause y.clause (map decimal (x.hints ++ 0 ∷ [])) (map decimal (y.hints ++ 0 ∷ [])) =
-          same_front literal_text (IsOver vars) (literal_words vars small) x.clause y.clause _ _ is_x.clause.over is_y.clause.over same in
+    same_front literal_text (IsOver vars) (literal_words vars small) x.clause y.clause _ _ is_x.clause.over is_y.clause.over same in
     let k : SameFront decimal (λ hint. (0 < hint) × (hint < 2 ^ 32)) hint_words x.hints y.hints [] [] =
-          same_front decimal _ hint_words x.hints y.hints [] [] is_x.hints is_y.hints (append-nil _ ∙ h.tails ∙ sym (append-nil _)) in
+    same_front decimal _ hint_words x.hints y.hints [] [] is_x.hints is_y.hints (append-nil _ ∙ h.tails ∙ sym (append-nil _)) in
     ap (λ clause. let s : Step = record { clause = clause; hints = x.hints } in s) h.numbers
     ∙ ap (λ hints. let s : Step = record { clause = y.clause; hints = hints } in s) k.numbers
 
@@ -35,7 +35,7 @@ pub record SameLine (x y : Step) (more more' : List ℕ) : Type 0 where
 line_once : (vars : ℕ) (x y : Step) (more more' : List ℕ) → vars < 2 ^ 31 → IsLine vars x → IsLine vars y → line_text x ++ more ≡ line_text y ++ more' → SameLine x y more more'
 line_once vars x y more more' small is_x is_y same =
     let cut : IsCut 10 (line_text x ++ more) (join_with_byte 32 (line_words x)) more =
-          record { parts = append_assoc (join_with_byte 32 (line_words x)) (10 ∷ []) more; first = lacks_joined 10 (line_words x) refl (line_lacks 10 vars x (omega arith) small is_x) } in
+    record { parts = append_assoc (join_with_byte 32 (line_words x)) (10 ∷ []) more; first = lacks_joined 10 (line_words x) refl (line_lacks 10 vars x (omega arith) small is_x) } in
     let one : IsFrontLine x (join_with_byte 32 (line_words x)) more more = front_line vars _ _ _ x more small cut is_x refl in
     let two : IsFrontLine y (join_with_byte 32 (line_words x)) more more' = front_line vars _ _ _ y more' small cut is_y same in
     record { line = same_line vars x y small is_x is_y (sym one.words ∙ two.words); rest = two.rest }
@@ -60,7 +60,7 @@ goes_on vars (x ∷ xs) [] rest small all_front all same =
     absurd (no_line_is_empty x (text_of_log xs ++ rest) (sym (append_assoc (line_text x) (text_of_log xs) rest) ∙ same))
 goes_on vars (x ∷ xs) (y ∷ ys) rest small all_front all same =
     let h : SameLine x y (text_of_log xs ++ rest) (text_of_log ys) =
-          line_once vars x y _ _ small (All-head (IsLine vars) x xs all_front) (All-head (IsLine vars) y ys all) (sym (append_assoc (line_text x) (text_of_log xs) rest) ∙ same) in
+    line_once vars x y _ _ small (All-head (IsLine vars) x xs all_front) (All-head (IsLine vars) y ys all) (sym (append_assoc (line_text x) (text_of_log xs) rest) ∙ same) in
     let k : GoesOn xs ys rest = goes_on vars xs ys rest small (All-tail (IsLine vars) x xs all_front) (All-tail (IsLine vars) y ys all) h.rest in
     record { later = k.later; steps_are = cc (h.line, k.steps_are); rest_is = k.rest_is }
 
@@ -74,6 +74,7 @@ not_bad vars text at steps small bad is = by_later h.later h.steps_are h.rest_is
   where
     h : GoesOn bad.front steps bad.rest
     h = goes_on vars bad.front steps bad.rest small bad.before is.lines (sym bad.parts ∙ is.text_is)
+
     by_later : (later : List Step) → steps ≡ bad.front ++ later → bad.rest ≡ text_of_log later → ⊥
     by_later [] steps_are rest_is = bad.some rest_is
     by_later (x ∷ xs) steps_are rest_is =
@@ -84,6 +85,7 @@ one_log vars text xs ys small is_x is_y = by_later h.later h.steps_are h.rest_is
   where
     h : GoesOn xs ys []
     h = goes_on vars xs ys [] small is_x.lines is_y.lines (append-nil (text_of_log xs) ∙ sym is_x.text_is ∙ is_y.text_is)
+
     by_later : (later : List Step) → ys ≡ xs ++ later → [] ≡ text_of_log later → xs ≡ ys
     by_later [] steps_are rest_is = sym (steps_are ∙ append-nil xs)
     by_later (z ∷ zs) steps_are rest_is = absurd (no_line_is_empty z (text_of_log zs) (sym rest_is))

@@ -33,7 +33,7 @@ decimal_plain (suc n) small =
 pub parsed : {E : Type 0} (bytes : List ℕ) (r : Result ℕ E) (n : ℕ) → ParsesUnsigned 32 10 bytes r → r ≡ Ok n → signed_or_padded bytes ≡ false → bytes ≡ decimal n
 parsed {E} bytes r n reads is plain =
     let parts : ((slice_index bytes 0 == 43) ≡ false) × (((slice_index bytes 0 == 48) && nat_lt 1 (length bytes)) ≡ false) =
-          or_parts (slice_index bytes 0 == 43) ((slice_index bytes 0 == 48) && nat_lt 1 (length bytes)) plain in
+    or_parts (slice_index bytes 0 == 43) ((slice_index bytes 0 == 48) && nat_lt 1 (length bytes)) plain in
     let P : Result ℕ E → Type 0 = λ q. OkIff q (AllDigits 10 bytes × (0 < length bytes) × (digits_value 10 bytes < 2 ^ 32)) (digits_value 10 bytes) in
     let told : P (Ok n) = subst P is (parse_plain own 32 bytes r reads (eqb-false (get_or bytes 0 0) 43 parts.0)) in
     sym (decimal-digits_value own bytes told.0.0 told.0.1 (one_digit told.0.1 parts.1) (omega (arith, told.0.2))) ∙ ap decimal (sym told.1)
@@ -41,6 +41,6 @@ parsed {E} bytes r n reads is plain =
     one_digit : 0 < length bytes → (((slice_index bytes 0 == 48) && nat_lt 1 (length bytes)) ≡ false) → get_or bytes 0 0 ≡ 48 → length bytes ≡ 1
     one_digit some h first =
         elim (and_cases (slice_index bytes 0 == 48) (nat_lt 1 (length bytes)) h) [
-          inl other ↦ absurd (eqb-false (get_or bytes 0 0) 48 other first)
-        | inr short ↦ omega (arith, ltb-false 1 (length bytes) short)
+          | inl other ↦ absurd (eqb-false (get_or bytes 0 0) 48 other first)
+          | inr short ↦ omega (arith, ltb-false 1 (length bytes) short)
         ]

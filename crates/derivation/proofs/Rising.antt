@@ -9,16 +9,16 @@ use Rattle.std.proofs.Math.ListN.{get_or-map}
 rising_push : (xs : List ℕ) (y : ℕ) → IsStrictlyIncreasing xs → (0 < length xs → get_or xs (length xs - 1) 0 < y) → IsStrictlyIncreasing (xs ++ y ∷ [])
 rising_push xs y rising last k within =
     elim (cases_lt (k + 1) (length xs)) [
-      inl before ↦
-        let here : get_or (xs ++ y ∷ []) k 0 ≡ get_or xs k 0 = get_or_append_left xs (y ∷ []) 0 k (omega arith) in
-        let next : get_or (xs ++ y ∷ []) (k + 1) 0 ≡ get_or xs (k + 1) 0 = get_or_append_left xs (y ∷ []) 0 (k + 1) before in
-        omega (arith, here, next, rising k before)
-    | inr at ↦
-        let long : length (xs ++ y ∷ []) ≡ length xs + 1 = length-append xs (y ∷ []) in
-        let here : get_or (xs ++ y ∷ []) k 0 ≡ get_or xs k 0 = get_or_append_left xs (y ∷ []) 0 k (omega arith) in
-        let place : k ≡ length xs - 1 = omega arith in
-        let next : get_or (xs ++ y ∷ []) (k + 1) 0 ≡ y = get_or_push xs y 0 (k + 1) (omega arith) in
-        omega (arith, here, next, ap (λ i. get_or xs i 0) place, last (omega arith))
+      | inl before ↦
+          let here : get_or (xs ++ y ∷ []) k 0 ≡ get_or xs k 0 = get_or_append_left xs (y ∷ []) 0 k (omega arith) in
+          let next : get_or (xs ++ y ∷ []) (k + 1) 0 ≡ get_or xs (k + 1) 0 = get_or_append_left xs (y ∷ []) 0 (k + 1) before in
+          omega (arith, here, next, rising k before)
+      | inr at ↦
+          let long : length (xs ++ y ∷ []) ≡ length xs + 1 = length-append xs (y ∷ []) in
+          let here : get_or (xs ++ y ∷ []) k 0 ≡ get_or xs k 0 = get_or_append_left xs (y ∷ []) 0 k (omega arith) in
+          let place : k ≡ length xs - 1 = omega arith in
+          let next : get_or (xs ++ y ∷ []) (k + 1) 0 ≡ y = get_or_push xs y 0 (k + 1) (omega arith) in
+          omega (arith, here, next, ap (λ i. get_or xs i 0) place, last (omega arith))
     ]
 
 rising_last : (xs : List ℕ) (y : ℕ) → IsStrictlyIncreasing (xs ++ y ∷ []) → 0 < length xs → get_or xs (length xs - 1) 0 < y
@@ -62,7 +62,7 @@ pub rising_above : (lits : List ℕ) (before lit : ℕ) → slice_get lits (leng
 rising_above lits before lit is rising =
     let some : 0 < length lits = some_there lits (length lits - 1) before is in
     let h : get_or (vars_of lits) (length (vars_of lits) - 1) 0 < lit / 2 =
-          rising_last (vars_of lits) (lit / 2) (subst IsStrictlyIncreasing (vars_push lits lit) rising) (omega (arith, length-map lits (λ x. x / 2))) in
+    rising_last (vars_of lits) (lit / 2) (subst IsStrictlyIncreasing (vars_push lits lit) rising) (omega (arith, length-map lits (λ x. x / 2))) in
     omega (arith, last_var lits before is)
 
 -- literals in front of others that rise

@@ -23,19 +23,19 @@ pub runs_gap : (at : ℕ) (bytes : List ℕ)
 runs_gap at [] = refl
 runs_gap at (b ∷ bs) =
     elim (cases_Bool (is_white b)) [
-      inl white ↦
-        let m = prefix_len is_white bs in
-        let G : ℕ → List Run = λ k. behind_gap (take k (b ∷ bs)) (runs (at + k) (drop k (b ∷ bs))) in
-        let count : suc m ≡ cond (is_white b) (1 + m) 0 = rw white (omega arith) in
-        cond-true (is_white b) _ _ white
-        ∙ ap (widened b) (runs_gap (suc at) bs)
-        ∙ widened_gap b (take m bs) (runs (suc at + m) (drop m bs))
-        ∙ ap (λ p. behind_gap (b ∷ take m bs) (runs p (drop m bs))) (let e : suc at + m ≡ at + suc m = omega arith in e)
-        ∙ ap G count
-    | inr dark ↦
-        let G : ℕ → List Run = λ k. behind_gap (take k (b ∷ bs)) (runs (at + k) (drop k (b ∷ bs))) in
-        let count : 0 ≡ cond (is_white b) (1 + prefix_len is_white bs) 0 = sym (cond-false (is_white b) _ _ dark) in
-        no_gap (runs at (b ∷ bs)) ∙ ap (λ p. behind_gap [] (runs p (b ∷ bs))) (let e : at ≡ at + 0 = omega arith in e) ∙ ap G count
+      | inl white ↦
+          let m = prefix_len is_white bs in
+          let G : ℕ → List Run = λ k. behind_gap (take k (b ∷ bs)) (runs (at + k) (drop k (b ∷ bs))) in
+          let count : suc m ≡ cond (is_white b) (1 + m) 0 = rw white (omega arith) in
+          cond-true (is_white b) _ _ white
+          ∙ ap (widened b) (runs_gap (suc at) bs)
+          ∙ widened_gap b (take m bs) (runs (suc at + m) (drop m bs))
+          ∙ ap (λ p. behind_gap (b ∷ take m bs) (runs p (drop m bs))) (let e : suc at + m ≡ at + suc m = omega arith in e)
+          ∙ ap G count
+      | inr dark ↦
+          let G : ℕ → List Run = λ k. behind_gap (take k (b ∷ bs)) (runs (at + k) (drop k (b ∷ bs))) in
+          let count : 0 ≡ cond (is_white b) (1 + prefix_len is_white bs) 0 = sym (cond-false (is_white b) _ _ dark) in
+          no_gap (runs at (b ∷ bs)) ∙ ap (λ p. behind_gap [] (runs p (b ∷ bs))) (let e : at ≡ at + 0 = omega arith in e) ∙ ap G count
     ]
 
 -- a byte before white space is a word of its own
@@ -59,15 +59,15 @@ joined : (at b c : ℕ) (cs : List ℕ) → (is_white c ≡ false → runs (suc 
     → begun at b (runs (suc at) (c ∷ cs)) ≡ split_with at b (c ∷ cs) (dark_len (c ∷ cs))
 joined at b c cs later =
     elim (cases_Bool (is_white c)) [
-      inl white ↦
-        let alone : Run = record { at = at; gap = []; bytes = b ∷ [] } in
-        let count : 0 ≡ dark_len (c ∷ cs) = sym (cond-false (not (is_white c)) (1 + dark_len cs) 0 (not_from_true (is_white c) white)) in
-        ap (begun at b) (cond-true (is_white c) _ _ white)
-        ∙ begun_apart at b c (runs (suc (suc at)) cs)
-        ∙ ap (λ ws. alone ∷ ws) (sym (cond-true (is_white c) _ _ white))
-        ∙ ap (λ p. alone ∷ runs p (c ∷ cs)) (let e : suc at ≡ suc at + 0 = omega arith in e)
-        ∙ ap (split_with at b (c ∷ cs)) count
-    | inr dark ↦ ap (begun at b) (later dark)
+      | inl white ↦
+          let alone : Run = record { at = at; gap = []; bytes = b ∷ [] } in
+          let count : 0 ≡ dark_len (c ∷ cs) = sym (cond-false (not (is_white c)) (1 + dark_len cs) 0 (not_from_true (is_white c) white)) in
+          ap (begun at b) (cond-true (is_white c) _ _ white)
+          ∙ begun_apart at b c (runs (suc (suc at)) cs)
+          ∙ ap (λ ws. alone ∷ ws) (sym (cond-true (is_white c) _ _ white))
+          ∙ ap (λ p. alone ∷ runs p (c ∷ cs)) (let e : suc at ≡ suc at + 0 = omega arith in e)
+          ∙ ap (split_with at b (c ∷ cs)) count
+      | inr dark ↦ ap (begun at b) (later dark)
     ]
 
 with_first : (at b : ℕ) (bs : List ℕ) → is_white b ≡ false → begun at b (runs (suc at) bs) ≡ split_with at b bs (dark_len bs)
@@ -90,13 +90,13 @@ first_dark : (bytes : List ℕ) (b : ℕ) (bs : List ℕ) → drop (prefix_len i
 first_dark [] b bs is = absurd (let h : [] ≡ b ∷ bs = is in cc)
 first_dark (c ∷ cs) b bs is =
     elim (cases_Bool (is_white c)) [
-      inl white ↦
-        let count : cond (is_white c) (1 + prefix_len is_white cs) 0 ≡ suc (prefix_len is_white cs) = cond-true (is_white c) (1 + prefix_len is_white cs) 0 white ∙ omega arith in
-        first_dark cs b bs (ap (λ k. drop k (c ∷ cs)) (sym count) ∙ is)
-    | inr dark ↦
-        let here : c ∷ cs ≡ b ∷ bs = ap (λ k. drop k (c ∷ cs)) (sym (cond-false (is_white c) (1 + prefix_len is_white cs) 0 dark)) ∙ is in
-        let same : c ≡ b = cc in
-        ap is_white (sym same) ∙ dark
+      | inl white ↦
+          let count : cond (is_white c) (1 + prefix_len is_white cs) 0 ≡ suc (prefix_len is_white cs) = cond-true (is_white c) (1 + prefix_len is_white cs) 0 white ∙ omega arith in
+          first_dark cs b bs (ap (λ k. drop k (c ∷ cs)) (sym count) ∙ is)
+      | inr dark ↦
+          let here : c ∷ cs ≡ b ∷ bs = ap (λ k. drop k (c ∷ cs)) (sym (cond-false (is_white c) (1 + prefix_len is_white cs) 0 dark)) ∙ is in
+          let same : c ≡ b = cc in
+          ap is_white (sym same) ∙ dark
     ]
 
 -- only white space is left
@@ -109,7 +109,7 @@ no_run at bytes behind is none =
 pub next_run : (at : ℕ) (bytes gap behind : List ℕ) → gap ≡ take (prefix_len is_white bytes) bytes → behind ≡ drop (prefix_len is_white bytes) bytes
     → prefix_len is_white bytes ≤ length bytes → (length behind ≡ 0 → ⊥)
     → let word : Run = record { at = at + length gap; gap = gap; bytes = take (dark_len behind) behind } in
-      runs at bytes ≡ word ∷ runs (at + length gap + dark_len behind) (drop (dark_len behind) behind)
+    runs at bytes ≡ word ∷ runs (at + length gap + dark_len behind) (drop (dark_len behind) behind)
 next_run at bytes gap [] gap_is is within some = absurd (some refl)
 next_run at bytes gap (b ∷ bs) gap_is is within some =
     let n = prefix_len is_white bytes in

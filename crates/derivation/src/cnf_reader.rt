@@ -1,22 +1,22 @@
 ghost use Rattle.std.specs.Prelude.{◌≡◌, ℕ, ◌<◌, ◌≤◌, ◌==◌, ◌&&◌, ◌||◌, List, [], ◌∷◌, ◌++◌, All, length, codes, IsTrue, IfOk, IfErr, OnOk, decimal};
 ghost use Rattle.std.specs.List.{list_all, list_any};
+ghost use Rattle.cnf_core.specs.Clauses.{Clauses};
 ghost use Rattle.cnf_core.specs.Literal.{IsOver};
 ghost use Rattle.derivation.specs.CnfText.{BlamesCnf, BlamesWords, closes, AreOf, IsCnfText};
 ghost use Rattle.derivation.specs.Entry.{entry_number, IsWithin, Puts};
+ghost use Rattle.derivation.specs.Reading.{IsReadAs};
 ghost use Rattle.derivation.specs.Runs.{is_blank, is_line_end, Run};
 ghost use Rattle.derivation.specs.Slots.{IsBody, IsCount, IsHeader, IsNamed, IsNextEntry, Misses};
 ghost use Rattle.derivation.specs.Texts.{literal_text};
-
-use no_memory::NoMemory;
-use std::alloc::Global;
-
-use cnf_core::{Cnf, Lit};
 
 use crate::comment::{ends_line, is_space_or_tab, without_comments};
 use crate::entry::{Entry, entry_of};
 use crate::fault::TextFault;
 use crate::number::number_up_to;
 use crate::words::{Word, Words};
+use cnf_core::{Cnf, Lit};
+use no_memory::NoMemory;
+use std::alloc::Global;
 
 /// The greatest number of variables, and of clauses, of a text.
 const MOST: u32 = 1000000;
@@ -31,9 +31,7 @@ fn take_named(words: &mut Words<'_>, bytes: &[u8], first: bool, end: u32) -> Res
         return Err(TextFault::BadText { at: end });
     };
     if word.bytes != bytes || !(first || is_blank_gap(word.gap)) {
-        return Err(TextFault::BadText {
-            at: word.at as u32,
-        });
+        return Err(TextFault::BadText { at: word.at as u32 });
     }
     Ok(())
 }
@@ -48,14 +46,10 @@ fn take_count(words: &mut Words<'_>, end: u32) -> Result<u32, TextFault>
         return Err(TextFault::BadText { at: end });
     };
     let Some(number) = number_up_to(word.bytes, MOST) else {
-        return Err(TextFault::BadText {
-            at: word.at as u32,
-        });
+        return Err(TextFault::BadText { at: word.at as u32 });
     };
     if !is_blank_gap(word.gap) {
-        return Err(TextFault::BadText {
-            at: word.at as u32,
-        });
+        return Err(TextFault::BadText { at: word.at as u32 });
     }
     Ok(number)
 }
@@ -71,14 +65,10 @@ fn take_entry(words: &mut Words<'_>, vars: u32, first: bool, end: u32) -> Result
         return Err(TextFault::BadText { at: end });
     };
     let Some(entry) = entry_of(word.bytes, vars) else {
-        return Err(TextFault::BadText {
-            at: word.at as u32,
-        });
+        return Err(TextFault::BadText { at: word.at as u32 });
     };
     if first && !has_line_end(word.gap) {
-        return Err(TextFault::BadText {
-            at: word.at as u32,
-        });
+        return Err(TextFault::BadText { at: word.at as u32 });
     }
     Ok(entry)
 }
@@ -125,7 +115,13 @@ fn header_of(words: &mut Words<'_>, end: u32) -> Result<Header, TextFault>
 }
 
 /// Adds the clauses that the words are, as many as the header says.
-fn fill(cnf: &mut Cnf, alloc: Global, words: &mut Words<'_>, count: u32, end: u32) -> Result<(), TextFault>
+fn fill(
+    cnf: &mut Cnf,
+    alloc: Global,
+    words: &mut Words<'_>,
+    count: u32,
+    end: u32,
+) -> Result<(), TextFault>
     requires vars { cnf.old.vars ≤ 1000000 }
     requires none { cnf.old.clauses ≡ [] }
     ensures found { OnOk result (IsBody cnf.old.vars count words.old words.new cnf.new.clauses) }
@@ -164,6 +160,23 @@ fn is_at_start(cnf: &Cnf, pending: &[Lit]) -> bool
     cnf.clauses() == 0 && pending.is_empty()
 }
 
+/// Reads a formula in DIMACS CNF, as the SAT competitions use it: the line `p cnf V C`, and then
+/// literals and zeros parted by white space, where each 0 ends a clause. Lines that begin with `c` are
+/// skipped, and one that begins with `%` behind the last clause ends the reading. There are at most
+/// 1,000,000 variables and as many clauses. The cost is the text's length. `BadText` has the place of
+/// the first word that cannot stand there, counted in bytes from 0, or the text's length where
+/// something is missing.
+pub fn read_cnf(alloc: Global, text: &[u8]) -> Result<Cnf, TextFault>
+    requires { length text.now ≤ 67108864 }
+    ensures read { IfOk result (IsCnfText text.now) }
+    ensures fault { IfErr result (BlamesCnf text.now) }
+
+    // A text that is that of a formula is read, and as this formula.
+    ensures again { (v : Clauses) → IsCnfText text.now v → IsReadAs result v }
+{
+    formula_of(alloc, text)
+}
+
 /// The formula of a text, or its first fault.
 fn formula_of(alloc: Global, text: &[u8]) -> Result<Cnf, TextFault>
     requires { length text.now ≤ 67108864 }
@@ -180,9 +193,7 @@ fn formula_of(alloc: Global, text: &[u8]) -> Result<Cnf, TextFault>
         return Ok(cnf);
     };
     if !is_closing(&word) {
-        return Err(TextFault::BadText {
-            at: word.at as u32,
-        });
+        return Err(TextFault::BadText { at: word.at as u32 });
     }
     Ok(cnf)
 }

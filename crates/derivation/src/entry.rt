@@ -2,9 +2,8 @@ ghost use Rattle.std.specs.Prelude.{◌≡◌, ◌*◌, ◌/◌, ◌^◌, ◌<�
 ghost use Rattle.derivation.specs.Entry.{entry_number, IsEntry, IsWithin};
 ghost use Rattle.derivation.specs.Texts.{literal_text};
 
-use cnf_core::Lit;
-
 use crate::number::number_up_to;
+use cnf_core::Lit;
 
 /// A word of a clause in a text.
 #[derive(Clone, Copy)]

@@ -1,9 +1,8 @@
 ghost use Rattle.std.specs.Prelude.{◌≡◌, ◌∷◌, ◌==◌, [], MatchOption};
 ghost use Rattle.std.specs.List.{slice_split};
 
-use std::marker::Model;
-
 use crate::cut::cut_at;
+use std::marker::Model;
 
 /// The words of a line, parted by single spaces. Contracts see it as the list of those that are left.
 #[derive(Drop)]

@@ -19,10 +19,11 @@ mod words;
 mod writer;
 
 pub use checker::{Checked, check};
+pub use cnf_reader::read_cnf;
 pub use effect::Effect;
 pub use fault::{CheckFault, TextFault};
 pub use laws::what_follows_is_true;
 pub use line::Line;
 pub use log::Log;
 pub use log_reader::read_log;
-pub use writer::log_text;
+pub use writer::{cnf_text, log_text};

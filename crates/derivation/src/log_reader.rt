@@ -5,22 +5,24 @@ ghost use Rattle.derivation.specs.Reading.{IsReadAs};
 ghost use Rattle.derivation.specs.Step.{Step};
 ghost use Rattle.derivation.specs.Texts.{literal_text};
 
+use crate::cut::cut_at;
+use crate::entry::{Entry, entry_of};
+use crate::fault::TextFault;
+use crate::fields::Fields;
+use crate::line::Line;
+use crate::log::Log;
+use crate::number::number_of;
+use cnf_core::Lit;
 use no_memory::NoMemory;
 use smallvec::SmallVec;
 use std::alloc::Global;
 
-use cnf_core::Lit;
-
-use crate::cut::cut_at;
-use crate::entry::{Entry, entry_of};
-use crate::fields::Fields;
-use crate::fault::TextFault;
-use crate::line::Line;
-use crate::log::Log;
-use crate::number::number_of;
-
 /// The literals up to the word `0`, which is taken off too.
-fn clause_of(alloc: Global, words: &mut Fields<'_>, vars: u32) -> Result<Option<SmallVec<Lit, 8>>, NoMemory>
+fn clause_of(
+    alloc: Global,
+    words: &mut Fields<'_>,
+    vars: u32,
+) -> Result<Option<SmallVec<Lit, 8>>, NoMemory>
     requires { vars < 2 ^ 31 }
     ensures found { IfOk result (λ found. IfSome found (λ clause. IsClause vars clause.items × (words.old ≡ map literal_text (clause.items ++ 0 ∷ []) ++ words.new))) }
     ensures none { IfOk result (λ found. IfNone found ((clause : List ℕ) (tail : List (List ℕ)) → IsClause vars clause → words.old ≡ map literal_text (clause ++ 0 ∷ []) ++ tail → ⊥)) }

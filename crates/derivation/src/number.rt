@@ -21,9 +21,7 @@ pub(crate) fn number_of(bytes: &[u8]) -> Option<u32>
 
 /// Whether a plus stands first, or a zero before other bytes.
 fn is_signed_or_padded(bytes: &[u8]) -> bool
-    ensures {
-        result ≡ ((slice_index bytes.now 0 == 43) || ((slice_index bytes.now 0 == 48) && nat_lt 1 (length bytes.now)))
-    }
+    ensures { result ≡ ((slice_index bytes.now 0 == 43) || ((slice_index bytes.now 0 == 48) && nat_lt 1 (length bytes.now))) }
 {
     match bytes {
         [] => false,

@@ -2,9 +2,8 @@ ghost use Rattle.std.specs.Prelude.{◌≡◌, ◌+◌, ◌<◌, ◌≤◌, [], 
 ghost use Rattle.std.specs.List.{prefix_len, list_any, list_all};
 ghost use Rattle.derivation.specs.Runs.{is_blank, is_line_end, is_white, runs};
 
-use std::marker::Model;
-
 use crate::comment::{ends_line, is_space_or_tab, is_white_space};
+use std::marker::Model;
 
 /// A word of a text: its place, the white space before it, and its bytes.
 #[derive(Drop)]

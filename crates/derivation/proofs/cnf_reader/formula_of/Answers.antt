@@ -11,8 +11,8 @@ returns-then-not-is_closing-clause-fault c =
     let place : c.in-Some.word.at ≡ c.word.inside.at = ap (λ (w : Run). w.at) (sym c.word.view_is) in
     inl
     (subst (λ (n : ℕ). IsWrongWord (words_of c.args.text.now) n) place
-      (ends_wrong (header_as c.in_ok-header.ensures.found c.new-cnf.result.vars (words_of c.args.text.now) (sym given) words) c.fill.new.cnf.clauses c.in_ok-fill.ensures.found
-        c.in-Some.word c.next.new.self c.in-Some.ensures.word (sym c.is_closing.ensures ∙ c.if-not-is_closing.true)))
+    (ends_wrong (header_as c.in_ok-header.ensures.found c.new-cnf.result.vars (words_of c.args.text.now) (sym given) words) c.fill.new.cnf.clauses c.in_ok-fill.ensures.found
+    c.in-Some.word c.next.new.self c.in-Some.ensures.word (sym c.is_closing.ensures ∙ c.if-not-is_closing.true)))
 
 pub returns-clause-read : goal.returns-clause-read
 returns-clause-read c =

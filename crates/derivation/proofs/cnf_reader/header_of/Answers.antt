@@ -21,7 +21,7 @@ returns-in_err-vars-clause-fault c =
     let n = c.in_ok-take_named-2.ensures.found in
     rw (e.1, e.2)
     (missed _ (p.0 ∷ n.0 ∷ []) c.take_named-2.new.words c.args.words.now c.args.end _ (head_third p.0 n.0 p.2.0 n.2.0 n.2.1) (p.1 ∙ ap (λ ws. p.0 ∷ ws) n.1)
-      c.in_err-vars.ensures.fault)
+    c.in_err-vars.ensures.fault)
 
 pub returns-in_err-clauses-clause-fault : goal.returns-in_err-clauses-clause-fault
 returns-in_err-clauses-clause-fault c =
@@ -31,6 +31,6 @@ returns-in_err-clauses-clause-fault c =
     let v = c.in_ok-vars.ensures.found in
     rw (e.1, e.2)
     (missed _ (p.0 ∷ n.0 ∷ v.0 ∷ []) c.take_count.new.words c.args.words.now c.args.end _
-      (head_fourth p.0 n.0 v.0 c.in_ok-vars.vars p.2.0 n.2.0 n.2.1 v.2 v.3 c.in_ok-vars.ensures.small)
-      (p.1 ∙ ap (λ ws. p.0 ∷ ws) n.1 ∙ ap (λ ws. p.0 ∷ n.0 ∷ ws) v.1)
-      c.in_err-clauses.ensures.fault)
+    (head_fourth p.0 n.0 v.0 c.in_ok-vars.vars p.2.0 n.2.0 n.2.1 v.2 v.3 c.in_ok-vars.ensures.small)
+    (p.1 ∙ ap (λ ws. p.0 ∷ ws) n.1 ∙ ap (λ ws. p.0 ∷ n.0 ∷ ws) v.1)
+    c.in_err-clauses.ensures.fault)

@@ -9,8 +9,8 @@ use Rattle.derivation.proofs.log_reader.line_of.Goals as goal
 pub returns-in_default-2-clause-none : goal.returns-in_default-2-clause-none
 returns-in_default-2-clause-none c =
     λ step is same.
-      let found = rw c.in-Some.is at c.in_ok-clause.ensures.found in
-      let none = rw c.in_default-2.is at c.in_ok-hints.ensures.none in
-      let h : SameFront literal_text (IsOver c.args.vars) (literal_words c.args.vars c.requires) c.in-Some.clause.items step.clause c.clause_of.new.words (map decimal (step.hints ++ 0 ∷ [])) =
-            same_front literal_text (IsOver c.args.vars) (literal_words c.args.vars c.requires) c.in-Some.clause.items step.clause _ _ found.0.over is.clause.over (sym found.1 ∙ same) in
-      none step.hints is.hints h.tails
+    let found = rw c.in-Some.is at c.in_ok-clause.ensures.found in
+    let none = rw c.in_default-2.is at c.in_ok-hints.ensures.none in
+    let h : SameFront literal_text (IsOver c.args.vars) (literal_words c.args.vars c.requires) c.in-Some.clause.items step.clause c.clause_of.new.words (map decimal (step.hints ++ 0 ∷ [])) =
+    same_front literal_text (IsOver c.args.vars) (literal_words c.args.vars c.requires) c.in-Some.clause.items step.clause _ _ found.0.over is.clause.over (sym found.1 ∙ same) in
+    none step.hints is.hints h.tails

@@ -19,12 +19,12 @@ returns-in_default-clause-none c =
 pub returns-in_default-parse-clause-none : goal.returns-in_default-parse-clause-none
 returns-in_default-parse-clause-none c =
     λ n small is.
-      let read : c.parse.result ≡ Ok n =
-            parse-decimal 32 n c.in-Ok.text.now c.parse.result small (omega arith) (c.in-Ok.ensures.cases.0 ∙ is) c.parse.ensures.value.0 in
-      c.in_default-parse.not-Ok n read
+    let read : c.parse.result ≡ Ok n =
+    parse-decimal 32 n c.in-Ok.text.now c.parse.result small (omega arith) (c.in-Ok.ensures.cases.0 ∙ is) c.parse.ensures.value.0 in
+    c.in_default-parse.not-Ok n read
 
 pub returns-clause-found : goal.returns-clause-found
 returns-clause-found c =
     sym c.in-Ok.ensures.cases.0
     ∙ parsed c.in-Ok.text.now c.parse.result c.in-Ok-parse.number c.parse.ensures.value.0 c.in-Ok-parse.is
-      (ap signed_or_padded c.in-Ok.ensures.cases.0 ∙ sym c.is_signed_or_padded.ensures ∙ c.if-is_signed_or_padded.false)
+    (ap signed_or_padded c.in-Ok.ensures.cases.0 ∙ sym c.is_signed_or_padded.ensures ∙ c.if-is_signed_or_padded.false)
