@@ -14,6 +14,8 @@ mod line;
 mod log;
 mod log_reader;
 mod number;
+#[cfg(test)]
+mod tests;
 mod trues;
 mod words;
 mod writer;
