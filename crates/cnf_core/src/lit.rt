@@ -22,6 +22,15 @@ impl Model for Lit {
     ghost inverse = { λ n. record { number = n } };
 }
 
+/// The literal of variable 1. Vectors that keep their elements inline want one to fill them with.
+impl Default for Lit {
+    ghost is_default = { λ lit. lit ≡ 2 };
+
+    fn default() -> Self {
+        Lit { number: 2 }
+    }
+}
+
 impl Lit {
     /// The literal that is true where the variable is.
     pub fn positive(var: u32) -> Lit

@@ -1,4 +1,17 @@
+pub mod Bodies
+pub mod CnfAgain
+pub mod CutLemmas
+pub mod Headers
+pub mod LineTexts
+pub mod Literals
+pub mod LogAgain
 pub mod LogLemmas
+pub mod LogWords
 pub mod Marked
+pub mod Numbers
 pub mod Once
+pub mod Rising
+pub mod RunLemmas
+pub mod Sequences
 pub mod Sound
+pub mod Spaced

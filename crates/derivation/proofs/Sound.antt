@@ -36,8 +36,8 @@ member_holds values [] lit all is = absurd (false≢true is)
 member_holds values (t ∷ ts) lit all is =
     let parts : (lit_holds values t ≡ true) × (list_all (lit_holds values) ts ≡ true) = and_parts (lit_holds values t) (list_all (lit_holds values) ts) all in
     elim (or_cases (t == lit) (is_true ts lit) is) [
-      inl here ↦ subst (λ (l : ℕ). lit_holds values l ≡ true) (eqb-true t lit here) parts.0
-    | inr there ↦ member_holds values ts lit parts.1 there
+      | inl here ↦ subst (λ (l : ℕ). lit_holds values l ≡ true) (eqb-true t lit here) parts.0
+      | inr there ↦ member_holds values ts lit parts.1 there
     ]
 
 -- a true clause has a true literal among those that are not false
@@ -46,14 +46,14 @@ not_false_holds : (values : ℕ → Bool) (trues clause : List ℕ) → list_all
 not_false_holds values trues [] all holds = holds
 not_false_holds values trues (l ∷ ls) all holds =
     elim (cases_Bool (is_true trues (negated l))) [
-      inl false_one ↦
-        let lit_false : lit_holds values l ≡ false = not-true (lit_holds values l) (sym (negated_holds values l) ∙ member_holds values trues (negated l) all false_one) in
-        rw false_one (not_false_holds values trues ls all (sym (ap (λ b. b || clause_holds values ls) lit_false) ∙ holds))
-    | inr open_one ↦
-        rw open_one (elim (or_cases (lit_holds values l) (clause_holds values ls) holds) [
-          inl here ↦ or_left (lit_holds values l) _ here
-        | inr there ↦ or_right (lit_holds values l) _ (not_false_holds values trues ls all there)
-        ])
+      | inl false_one ↦
+          let lit_false : lit_holds values l ≡ false = not-true (lit_holds values l) (sym (negated_holds values l) ∙ member_holds values trues (negated l) all false_one) in
+          rw false_one (not_false_holds values trues ls all (sym (ap (λ b. b || clause_holds values ls) lit_false) ∙ holds))
+      | inr open_one ↦
+          rw open_one (elim (or_cases (lit_holds values l) (clause_holds values ls) holds) [
+            | inl here ↦ or_left (lit_holds values l) _ here
+            | inr there ↦ or_right (lit_holds values l) _ (not_false_holds values trues ls all there)
+          ])
     ]
 
 -- literals that are all the same one hold only where it does
@@ -62,8 +62,8 @@ only_holds values lit [] all holds = absurd (false≢true holds)
 only_holds values lit (l ∷ ls) all holds =
     let parts : (l == lit ≡ true) × (list_all (λ other. other == lit) ls ≡ true) = and_parts (l == lit) (list_all (λ other. other == lit) ls) all in
     elim (or_cases (lit_holds values l) (clause_holds values ls) holds) [
-      inl here ↦ subst (λ (m : ℕ). lit_holds values m ≡ true) (eqb-true l lit parts.0) here
-    | inr there ↦ only_holds values lit ls parts.1 there
+      | inl here ↦ subst (λ (m : ℕ). lit_holds values m ≡ true) (eqb-true l lit parts.0) here
+      | inr there ↦ only_holds values lit ls parts.1 there
     ]
 
 -- what an effect says of values under which the clause and all that was made true hold
@@ -77,8 +77,8 @@ effect_by_sound values trues [] holds = false≢true holds
 effect_by_sound values trues (l ∷ ls) holds =
     cond_both (list_all (λ other. other == l) ls && not (is_true trues l)) (Forces l) Fails (IsSound values)
     (λ single. elim (or_cases (lit_holds values l) (clause_holds values ls) holds) [
-      inl here ↦ here
-    | inr there ↦ only_holds values l ls (and_parts (list_all (λ other. other == l) ls) (not (is_true trues l)) single).0 there
+      | inl here ↦ here
+      | inr there ↦ only_holds values l ls (and_parts (list_all (λ other. other == l) ls) (not (is_true trues l)) single).0 there
     ])
     (λ _. tt)
 
@@ -100,7 +100,7 @@ ends_sound : (values : ℕ → Bool) (known : List (List ℕ)) (hints trues : Li
 ends_sound values known [] trues all holds ended = false≢true ended
 ends_sound values known (hint ∷ left) trues all holds ended =
     let parts : (is_hint known hint ≡ true) × (goes_on (effect_of trues (hinted known hint)) left trues (ends known left) ≡ true) =
-          and_parts (is_hint known hint) (goes_on (effect_of trues (hinted known hint)) left trues (ends known left)) ended in
+    and_parts (is_hint known hint) (goes_on (effect_of trues (hinted known hint)) left trues (ends known left)) ended in
     let range : (nat_lt 0 hint ≡ true) × (nat_le hint (length known) ≡ true) = and_parts (nat_lt 0 hint) (nat_le hint (length known)) parts.0 in
     let within : hint - 1 < length known = omega (arith, ltb-true 0 hint range.0, leb-true hint (length known) range.1) in
     on_effect (effect_of trues (hinted known hint))

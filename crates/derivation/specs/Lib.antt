@@ -1,4 +1,12 @@
+pub mod CnfText
+pub mod Cuts
+pub mod Entry
+pub mod LogText
 pub mod Logs
 pub mod Marks
 pub mod Propagation
+pub mod Reading
+pub mod Runs
+pub mod Slots
 pub mod Step
+pub mod Texts

@@ -4,15 +4,13 @@ ghost use Rattle.cnf_core.specs.Truth.{IsUnsatisfiable};
 ghost use Rattle.derivation.specs.Propagation.{ends, hinted, is_hint, once, follows};
 ghost use Rattle.derivation.specs.Logs.{clauses_of, ends_empty, Blames, Valid};
 
-use no_memory::NoMemory;
-
-use cnf_core::{Cnf, Lit};
-
 use crate::effect::{Effect, what_does};
 use crate::fault::CheckFault;
 use crate::line::Line;
 use crate::log::Log;
 use crate::trues::Trues;
+use cnf_core::{Cnf, Lit};
+use no_memory::NoMemory;
 
 /// What an accepted log has.
 #[derive(Clone, Copy, Debug, PartialEq, Eq)]
@@ -105,10 +103,8 @@ fn do_end(cnf: &Cnf, before: &[Line], hints: &[u32], trues: &mut Trues) -> Resul
 
 /// The clause of this number: the formula's come first, then the ones of the lines before.
 fn clause_of<'a>(cnf: &'a Cnf, before: &'a [Line], hint: u32) -> Option<&'a [Lit]>
-    ensures {
-        let known = cnf.now.clauses ++ clauses_of before.now in
-        MatchOption result (is_hint known hint ≡ false) (λ clause. (is_hint known hint ≡ true) × (clause.now ≡ hinted known hint))
-    }
+    ensures { let known = cnf.now.clauses ++ clauses_of before.now in
+        MatchOption result (is_hint known hint ≡ false) (λ clause. (is_hint known hint ≡ true) × (clause.now ≡ hinted known hint)) }
 {
     let place = hint.checked_sub(1)?;
     if place < cnf.clauses() {

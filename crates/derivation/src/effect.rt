@@ -2,9 +2,8 @@ ghost use Rattle.std.specs.Prelude.{◌≡◌, ◌==◌, ◌∷◌};
 ghost use Rattle.std.specs.List.{list_all};
 ghost use Rattle.derivation.specs.Propagation.{effect_by, effect_of, not_false};
 
-use cnf_core::Lit;
-
 use crate::trues::Trues;
+use cnf_core::Lit;
 
 /// What a clause does under the literals that are true.
 #[derive(Clone, Copy, Debug, PartialEq, Eq)]

@@ -9,5 +9,4 @@ ghost use Rattle.derivation.specs.Logs.{Refutes};
 pub fn what_follows_is_true()
     ensures line { (values : ℕ → Bool) (known : List (List ℕ)) (step : Step) → Satisfies values known → Follows known step → IsTrue (clause_holds values step.clause) }
     ensures log { (clauses : List (List ℕ)) (steps : List Step) → Refutes clauses steps → IsUnsatisfiable clauses }
-{
-}
+{}

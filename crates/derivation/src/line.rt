@@ -1,7 +1,6 @@
-use std::marker::Model;
-
 use cnf_core::Lit;
 use smallvec::SmallVec;
+use std::marker::Model;
 
 /// One line of a log: a clause, and the numbers of the clauses that lead to a conflict where all of
 /// its literals are false. The clauses of the formula have the numbers from 1 on, and behind them

@@ -1,10 +1,9 @@
 ghost use Rattle.std.specs.Prelude.{◌≡◌, ℕ, ◌^◌, ◌<◌, [], ◌∷◌, ◌++◌, length, OnOk, OnErr};
 
+use crate::line::Line;
 use no_memory::NoMemory;
 use std::alloc::Global;
 use std::marker::Model;
-
-use crate::line::Line;
 
 /// A log: its lines in order, at most 4294967295. Contracts see it as the list of its lines.
 #[derive(Drop)]

@@ -2,11 +2,10 @@ ghost use Rattle.std.specs.Prelude.{◌≡◌, ℕ, ◌<◌, false, [], ◌∷�
 ghost use Rattle.derivation.specs.Marks.{AreMarks};
 ghost use Rattle.derivation.specs.Propagation.{is_true};
 
+use cnf_core::Lit;
 use no_memory::NoMemory;
 use std::alloc::Global;
 use std::marker::Model;
-
-use cnf_core::Lit;
 
 /// The literals made true so far, in the order in which they were. A table by their numbers answers
 /// at once whether one is among them; it grows with the greatest number.

@@ -9,9 +9,10 @@ use Rattle.derivation.proofs.checker.check.Goals as goal
 pub loop-place-preserved : goal.loop-place-preserved
 loop-place-preserved c =
     let followed : follows (c.args.cnf.now.clauses ++ clauses_of (take c.loop-place.place c.lines-lines.result.now)) c.index-lines-place.result ≡ true =
-          rw (← c.split_at.ensures.front) (sym c.in_ok-does_follow.ensures.right ∙ c.if-not-branch.false) in
-    (c.in_ok-does_follow.ensures.cleared,
-      valid_more _ _ c.loop-place.place c.index-lines-place.result (omega arith) c.index-lines-place.is c.loop-place.invariant.1 followed)
+    rw (← c.split_at.ensures.front) (sym c.in_ok-does_follow.ensures.right ∙ c.if-not-branch.false) in (
+      c.in_ok-does_follow.ensures.cleared,
+      valid_more _ _ c.loop-place.place c.index-lines-place.result (omega arith) c.index-lines-place.is c.loop-place.invariant.1 followed,
+    )
 
 pub returns-clause-unsatisfiable : goal.returns-clause-unsatisfiable
 returns-clause-unsatisfiable c =
