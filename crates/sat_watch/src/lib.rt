@@ -1,0 +1,6 @@
+//! Propagation over two watched literals a clause: the trail, and clauses with linked watch lists.
+#![tactic(auto)]
+
+mod trail;
+
+pub use trail::{Entry, Trail};
