@@ -1,8 +1,8 @@
 -- How a trail grows and goes back.
 use Rattle.std.proofs.Common.{◌≡◌, ◌≢◌, ℕ, zero, suc, ◌+◌, ◌-◌, ◌*◌, ◌/◌, ◌<◌, ◌≤◌, ◌^◌, Bool, true, false, cond, eqb, not, List, [], ◌∷◌, ◌++◌, length, map, take, drop, get_or, set, refl, sym, ap, ◌∙◌, subst, inl, inr, ◌⊎◌, All, arith, rules, get_or-set_same, get_or-set_other, length-append}
-use Rattle.std.specs.List.{list_any, filter, min}
-use Rattle.std.specs.Prelude.{nat_le}
-use Rattle.std.proofs.lemmas.List.{length-map, map-append, length-set, length_push, take_more, drop_more, take-append-drop, append-nil, get_or-map}
+use Rattle.std.specs.List.{list_any, filter}
+use Rattle.std.specs.Prelude.{nat_le, min}
+use Rattle.std.proofs.lemmas.List.{length-map, map-append, length-set, length_push, take_more, drop_more, take-append-drop, append-nil, get_or-map, length-take-le, get_or_append_left}
 use Rattle.std.proofs.lemmas.List.Elements.{All-push}
 use Rattle.cnf_core.specs.Literal.{negated, IsOver}
 use Rattle.sat_watch.specs.declared.trail.Entry.{Entry}
@@ -113,3 +113,43 @@ pub entry_place : (entries : List Entry) (n k : ℕ) (e : Entry) → All (λ lit
 entry_place entries n k e a l is =
   let at : get_or (literals entries) k 0 ≡ e.lit = get_or-map (λ x. x.lit) entries k e 0 l ∙ ap (λ x. x.lit) (sym is) in
   subst (λ lit. lit < n) at (a k 0 (rw length-map l))
+
+up_to_none : (from to level : ℕ) (entries : List Entry) → Rises from (levels entries) to → level < from → up_to level entries ≡ []
+up_to_none from to level [] r l = refl
+up_to_none from to level (e ∷ es) r l =
+  let no : nat_le e.level level ≡ false = grind (arith, r.0) in rw no (up_to_none e.level to level es r.2 (omega (arith, r.0)))
+
+-- the levels up to one that was reached rise to it
+pub rises-up_to : (from to level : ℕ) (entries : List Entry) → Rises from (levels entries) to → from ≤ level → level ≤ to → Rises from (levels (up_to level entries)) level
+rises-up_to from to level [] r l m = omega arith
+rises-up_to from to level (e ∷ es) r l m = elim (tested (nat_le e.level level)) [
+    inl below ↦ let le : e.level ≤ level = grind (arith, below) in rw below ((r.0, r.1, rises-up_to e.level to level es r.2 le m))
+  | inr above ↦
+    let gt : level < e.level = grind (arith, above) in
+    rw above (subst (λ es'. Rises from (levels es') level) (sym (up_to_none e.level to level es r.2 gt)) (let e : from ≡ level = omega (arith, r.0, r.1) in e)) ]
+
+-- the trail that is left, once the entries above a level are gone
+pub marked_back : (vars level passed level' kept passed' : ℕ) (entries entries' : List Entry) (marks marks' : List Bool)
+    → IsMarked (record { vars = vars; entries = entries; level = level; passed = passed }) marks
+    → level' ≤ level → entries' ≡ take kept entries → kept ≤ length entries → take kept entries ≡ up_to level' entries
+    → AreMarks marks' (literals (take kept entries)) → length marks' ≡ length marks → passed' ≡ min passed kept
+    → IsMarked (record { vars = vars; entries = entries'; level = level'; passed = passed' }) marks'
+marked_back vars level passed level' kept passed' entries entries' marks marks' m l is w up marked whole p =
+  let lits : literals entries ≡ literals (take kept entries) ++ literals (drop kept entries) =
+    ap literals (sym (take-append-drop kept entries)) ∙ map-append (λ x. x.lit) (take kept entries) (drop kept entries) in
+  let count : length (take kept entries) ≡ kept = length-take-le kept entries w in
+  let count' : length entries' ≡ kept = ap length is ∙ count in
+  let apart : AreApart (literals (take kept entries)) = apart-front (literals (take kept entries)) (literals (drop kept entries)) (subst AreApart lits m.sound.apart) in
+  let over : All (IsOver vars) (literals (take kept entries)) =
+    λ k d h. subst (IsOver vars) (get_or_append_left (literals (take kept entries)) (literals (drop kept entries)) d k h)
+      (subst (All (IsOver vars)) lits m.sound.over k d (omega (arith, length-append (literals (take kept entries)) (literals (drop kept entries))))) in
+  record {
+    sound = record {
+      small = m.sound.small;
+      over = subst (λ es. All (IsOver vars) (literals es)) (sym is) over;
+      apart = subst (λ es. AreApart (literals es)) (sym is) apart;
+      rises = subst (λ es. Rises 0 (levels es) level') (sym (is ∙ up)) (rises-up_to 0 level level' entries m.sound.rises (omega arith) l);
+      within = omega (arith, count', p, w);
+      few = omega (arith, count', w, m.sound.few) };
+    marked = subst (λ es. AreMarks marks' (literals es)) (sym is) marked;
+    whole = whole ∙ m.whole }

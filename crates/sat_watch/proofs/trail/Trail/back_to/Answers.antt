@@ -1,9 +1,16 @@
-use Rattle.std.proofs.Common.{rules, ◌≡◌, ℕ, ◌+◌, ◌*◌, ◌<◌, ◌≤◌, ◌^◌, Bool, Some, None, [], ◌∷◌, ◌++◌, List, length, take, min, All, IfOk, ◌-◌, ◌/◌, ◌%◌, true, false, nat_eq, nat_lt, slice_index_or, slice_set, bit_and, bit_or, Fits, w8, w32, w64, Bor, MutBor}
-use Rattle.cnf_core.specs.Literal.{IsOver}
-use Rattle.sat_watch.specs.Trail.{literals, levels, up_to, Rises, TrailState, IsSound}
-use Rattle.sat_watch.specs.Literals.{is_true, value_of, IsOpen, AreApart, AreMarks}
+use Rattle.std.proofs.Common.{◌≤◌, ◌≡◌, ◌∙◌, subst, sym, ap, arith, take, length}
+use Rattle.sat_watch.specs.Literals.{AreMarks}
+use Rattle.sat_watch.specs.Trail.{literals, up_to}
+use Rattle.sat_watch.proofs.TrailLemmas.{marked_back}
 use Rattle.sat_watch.proofs.trail.Trail.back_to.Goals as goal
 
--- src/trail.rt:144:5
 pub invariant_of-self : goal.invariant_of-self
-invariant_of-self c = ?
+invariant_of-self c =
+  (marked_back c.self.inside.vars c.self.inside.level c.self.inside.passed c.args.level c.unset_above-kept.result c.min-self-inside.result
+    c.self.inside.entries.items c.truncate.new.self.items c.self.inside.truths.items c.unset_above-kept.new.truths.items c.self.invariant.0
+    (subst (λ t. c.args.level ≤ t.level) (sym c.self.view_is) c.requires) c.truncate.ensures.items
+    (subst (λ es. c.unset_above-kept.result ≤ length es) c.deref.ensures.value c.unset_above-kept.ensures.within)
+    (subst (λ es. take c.unset_above-kept.result es ≡ up_to c.args.level es) c.deref.ensures.value c.unset_above-kept.ensures.kept)
+    (subst (λ es. AreMarks c.unset_above-kept.new.truths.items (literals (take c.unset_above-kept.result es))) c.deref.ensures.value c.unset_above-kept.ensures.marked)
+    c.unset_above-kept.ensures.length c.min-self-inside.ensures,
+   omega (arith, c.self.invariant.1, c.truncate.ensures.capacity))
