@@ -1,2 +1,3 @@
 pub mod LiteralLemmas
+pub mod RightLemmas
 pub mod TrailLemmas

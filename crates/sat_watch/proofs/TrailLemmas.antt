@@ -114,7 +114,7 @@ entry_place entries n k e a l is =
   let at : get_or (literals entries) k 0 ≡ e.lit = get_or-map (λ x. x.lit) entries k e 0 l ∙ ap (λ x. x.lit) (sym is) in
   subst (λ lit. lit < n) at (a k 0 (rw length-map l))
 
-up_to_none : (from to level : ℕ) (entries : List Entry) → Rises from (levels entries) to → level < from → up_to level entries ≡ []
+pub up_to_none : (from to level : ℕ) (entries : List Entry) → Rises from (levels entries) to → level < from → up_to level entries ≡ []
 up_to_none from to level [] r l = refl
 up_to_none from to level (e ∷ es) r l =
   let no : nat_le e.level level ≡ false = grind (arith, r.0) in rw no (up_to_none e.level to level es r.2 (omega (arith, r.0)))

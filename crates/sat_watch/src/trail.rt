@@ -43,6 +43,7 @@ impl Model for Trail {
 
 impl Trail {
     ghost use Rattle.sat_watch.specs.Trail.{TrailState, IsSound};
+    ghost use Rattle.sat_watch.specs.Watching.{WatchState, Right};
 
     /// The empty trail over the variables 1 to `vars`, at level 0, with room for each of them.
     pub fn new(alloc: Global, vars: u32) -> Result<Trail, NoMemory>
@@ -114,7 +115,8 @@ impl Trail {
         requires over { IsOver self.old.vars lit }
         requires unset { IsOpen (literals self.old.entries) lit }
         requires passed { self.old.passed ≡ length self.old.entries }
-        ensures { self.new ≡ record self.old { entries = self.old.entries ++ record { lit = lit; level = self.old.level + 1; reason = None } ∷ []; level = self.old.level + 1 } }
+        ensures adds { self.new ≡ record self.old { entries = self.old.entries ++ record { lit = lit; level = self.old.level + 1; reason = None } ∷ []; level = self.old.level + 1 } }
+        ensures right { (w : WatchState) → Right w self.old → Right w self.new }
     {
         self.entries.push_reserved(Entry {
             lit,
@@ -129,7 +131,8 @@ impl Trail {
     pub fn set(&mut self, lit: Lit, reason: Option<u32>)
         requires over { IsOver self.old.vars lit }
         requires unset { IsOpen (literals self.old.entries) lit }
-        ensures { self.new ≡ record self.old { entries = self.old.entries ++ record { lit = lit; level = self.old.level; reason = reason } ∷ [] } }
+        ensures adds { self.new ≡ record self.old { entries = self.old.entries ++ record { lit = lit; level = self.old.level; reason = reason } ∷ [] } }
+        ensures right { (w : WatchState) → Right w self.old → Right w self.new }
     {
         self.entries.push_reserved(Entry {
             lit,
@@ -147,6 +150,7 @@ impl Trail {
         ensures level { self.new.level ≡ level }
         ensures passed { self.new.passed ≡ min self.old.passed (length self.new.entries) }
         ensures vars { self.new.vars ≡ self.old.vars }
+        ensures right { (w : WatchState) → Right w self.old → Right w self.new }
     {
         let kept = unset_above(&self.entries, &mut self.truths, level, self.level);
         self.entries.truncate(kept);

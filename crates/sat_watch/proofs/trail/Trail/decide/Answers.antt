@@ -1,4 +1,6 @@
-use Rattle.std.proofs.Common.{◌<◌, ◌≤◌, ◌+◌, length, subst, sym, arith, refl, ap, None}
+use Rattle.std.proofs.Common.{◌<◌, ◌≤◌, ◌+◌, length, subst, sym, arith, refl, ap, None, inr, ◌≡◌}
+use Rattle.sat_watch.specs.Watching.{Right}
+use Rattle.sat_watch.proofs.RightLemmas.{right_more}
 use Rattle.std.proofs.lemmas.List.{length-map}
 use Rattle.cnf_core.specs.Literal.{IsOver}
 use Rattle.sat_watch.specs.Literals.{IsOpen}
@@ -31,3 +33,10 @@ invariant_of-self c =
   let more = marked_more c.self.inside.vars c.self.inside.level c.self.inside.passed (c.self.inside.level + 1) c.self.inside.entries.items c.self.inside.truths.items
     (record { lit = c.args.lit; level = c.self.inside.level + 1; reason = None }) c.self.invariant.0 over unset refl (omega arith) (omega arith) in
   (rw (c.push_reserved.ensures.items, c.number.ensures.value) more, omega (arith, c.self.invariant.1, c.push_reserved.ensures.capacity))
+
+pub returns-clause-right : goal.returns-clause-right
+returns-clause-right c = λ w r.
+  let all : c.self.inside.passed ≡ length c.self.inside.entries.items = subst (λ t. t.passed ≡ length t.entries) (sym c.self.view_is) c.requires.passed in
+  let more = right_more w c.self.inside.vars c.self.inside.level c.self.inside.passed (c.self.inside.level + 1) c.self.inside.entries.items
+    (record { lit = c.args.lit; level = c.self.inside.level + 1; reason = None }) (subst (Right w) (sym c.self.view_is) r) refl c.self.invariant.0.sound.within (inr all) in
+  rw c.push_reserved.ensures.items more

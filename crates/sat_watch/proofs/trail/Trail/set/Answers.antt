@@ -1,4 +1,6 @@
-use Rattle.std.proofs.Common.{◌<◌, ◌≤◌, ◌+◌, length, subst, sym, arith, refl, ap}
+use Rattle.std.proofs.Common.{◌<◌, ◌≤◌, ◌+◌, length, subst, sym, arith, refl, ap, inl}
+use Rattle.sat_watch.specs.Watching.{Right}
+use Rattle.sat_watch.proofs.RightLemmas.{right_more}
 use Rattle.cnf_core.specs.Literal.{IsOver}
 use Rattle.sat_watch.specs.Literals.{IsOpen}
 use Rattle.sat_watch.specs.Trail.{literals, IsMarked}
@@ -20,3 +22,9 @@ invariant_of-self c =
   let more = marked_more c.self.inside.vars c.self.inside.level c.self.inside.passed c.self.inside.level c.self.inside.entries.items c.self.inside.truths.items
     (record { lit = c.args.lit; level = c.self.inside.level; reason = c.args.reason }) c.self.invariant.0 over unset refl (omega arith) (omega arith) in
   (rw (c.push_reserved.ensures.items, c.number.ensures.value) more, omega (arith, c.self.invariant.1, c.push_reserved.ensures.capacity))
+
+pub returns-clause-right : goal.returns-clause-right
+returns-clause-right c = λ w r.
+  let more = right_more w c.self.inside.vars c.self.inside.level c.self.inside.passed c.self.inside.level c.self.inside.entries.items
+    (record { lit = c.args.lit; level = c.self.inside.level; reason = c.args.reason }) (subst (Right w) (sym c.self.view_is) r) refl c.self.invariant.0.sound.within (inl refl) in
+  rw c.push_reserved.ensures.items more
