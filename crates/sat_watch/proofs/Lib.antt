@@ -1,3 +1,4 @@
 pub mod LiteralLemmas
 pub mod RightLemmas
+pub mod ThreadLemmas
 pub mod TrailLemmas

@@ -7,6 +7,15 @@ use Rattle.cnf_core.specs.Literal.{negated}
 abbrev pub is_true : List ℕ → ℕ → Bool
 is_true trues lit = list_any (λ made. made == lit) trues
 
+-- whether a list has an element
+abbrev pub has : List ℕ → ℕ → Bool
+has xs x = list_any (λ y. y == x) xs
+
+-- No element stands at two places.
+abbrev pub EachOnce : List ℕ → Type 0
+EachOnce [] = ⊤
+EachOnce (x ∷ xs) = (has xs x ≡ false) × EachOnce xs
+
 -- the value of a variable
 abbrev pub value_of : List ℕ → ℕ → Option Bool
 value_of trues var = if is_true trues (2 * var) then Some true else (if is_true trues (2 * var + 1) then Some false else None)

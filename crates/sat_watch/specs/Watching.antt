@@ -1,7 +1,7 @@
 -- Which clause watches which of its literals, and when that fits a trail.
 use Rattle.std.specs.Prelude.{◌≡◌, ◌≢◌, ℕ, ◌+◌, ◌-◌, ◌*◌, ◌/◌, ◌<◌, ◌≤◌, true, List, [], length, slice_index, slice_index_or}
 use Rattle.cnf_core.specs.Literal.{negated}
-use Rattle.sat_watch.specs.Literals.{is_true}
+use Rattle.sat_watch.specs.Literals.{has}
 use Rattle.sat_watch.specs.Trail.{TrailState, literals, levels}
 
 -- The clauses in the order of their numbers, and the literal of each watch, or 0 where it is in no list.
@@ -28,7 +28,7 @@ IsWatch w watch = (2 * (w.vars + 1) ≤ watch) × (watch < 2 * (w.vars + 1 + len
 
 -- The watch is for a literal of its clause, and not for the one of its twin.
 pub record IsSet (w : WatchState) (watch : ℕ) : Type 0 where
-  pub inside : is_true (clause_of w watch) (slice_index w.watched watch) ≡ true
+  pub inside : has (clause_of w watch) (slice_index w.watched watch) ≡ true
   pub apart : slice_index w.watched watch ≢ slice_index w.watched (twin watch)
 
 -- Some entry makes the literal true at a level that is not above.

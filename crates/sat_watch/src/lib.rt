@@ -2,5 +2,7 @@
 #![tactic(auto)]
 
 mod trail;
+mod watches;
 
 pub use trail::{Entry, Trail};
+pub use watches::Watches;

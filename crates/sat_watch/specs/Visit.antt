@@ -1,0 +1,34 @@
+-- A walk over the watches of a literal that became false.
+use Rattle.std.specs.Prelude.{◌≡◌, ◌≢◌, ℕ, ◌+◌, ◌-◌, ◌*◌, ◌/◌, ◌<◌, ◌==◌, zero, suc, List, [], ◌∷◌, true, false, length, slice_index, slice_index_or, if◌then◌else◌}
+use Rattle.cnf_core.specs.Clauses.{Clauses}
+use Rattle.cnf_core.specs.Literal.{negated}
+use Rattle.sat_watch.specs.Literals.{is_true, has}
+use Rattle.sat_watch.specs.Trail.{TrailState, literals, IsSound}
+use Rattle.sat_watch.specs.Threads.{Chain, Walk, IsWatches}
+use Rattle.sat_watch.specs.Watching.{WatchState, twin, Right}
+use Rattle.sat_watch.specs.Propagation.{IsFalse, Grows}
+
+-- the watches as contracts see them
+abbrev pub state : Clauses → List ℕ → WatchState
+state cnf watched = record { vars = cnf.vars; clauses = cnf.clauses; watched = watched }
+
+-- what is read along the links from a place, in at most so many steps
+abbrev pub read : List ℕ → ℕ → ℕ → List ℕ
+read links zero at = []
+read links (suc steps) at = if slice_index links at == 0 then [] else slice_index links at ∷ read links steps (slice_index links at)
+
+-- The list of the literal is gone through up to a place: the watches in front have a true twin, the rest is to come.
+pub record IsVisit (cnf : Clauses) (links watched : List ℕ) (start now : TrailState) (lit at : ℕ) : Type 0 where
+  pub whole : IsWatches cnf links watched
+  pub right : Right (state cnf watched) now
+  pub sound : IsSound now
+  pub grown : Grows cnf.clauses start now
+  pub passed : now.passed ≡ start.passed
+  pub vars : now.vars ≡ cnf.vars
+  pub within : now.passed < length now.entries
+  pub next : slice_index (literals now.entries) now.passed ≡ negated lit
+  pub front : List ℕ
+  pub rest : List ℕ
+  pub walked : Walk links lit front at
+  pub left : Chain links at rest
+  pub twins : (watch : ℕ) → has front watch ≡ true → is_true (literals now.entries) (slice_index watched (twin watch)) ≡ true
