@@ -1,6 +1,7 @@
 -- Lists linked by index: what a write to a link leaves, and how a watch leaves one list and joins another.
-use Rattle.std.proofs.Common.{◌≡◌, ◌≢◌, ◌↔◌, ℕ, zero, suc, ◌+◌, ◌-◌, ◌*◌, ◌/◌, ◌<◌, ◌≤◌, Bool, true, false, cond, eqb, not, ◌||◌, List, [], ◌∷◌, ◌++◌, length, get_or, set, refl, sym, ap, ◌∙◌, subst, inl, inr, ◌⊎◌, arith, rules, get_or-set_same, get_or-set_other, length-append}
+use Rattle.std.proofs.Common.{◌≡◌, ◌≢◌, ◌↔◌, ℕ, zero, suc, ◌+◌, ◌-◌, ◌*◌, ◌/◌, ◌<◌, ◌≤◌, Bool, true, false, cond, eqb, ltb, not, ◌||◌, List, [], ◌∷◌, ◌++◌, length, get_or, set, refl, sym, ap, ◌∙◌, subst, inl, inr, ◌⊎◌, arith, rules, get_or-set_same, get_or-set_other, length-append}
 use Rattle.std.proofs.Math.ListN.{length-set}
+use Rattle.std.proofs.lemmas.List.{set_past}
 use Rattle.std.specs.List.{list_any}
 use Rattle.sat_watch.specs.Literals.{has, EachOnce}
 use Rattle.sat_watch.specs.Threads.{Chain, Walk, IsThread, Threaded}
@@ -81,3 +82,168 @@ chain_in links list lit at c o p l m =
     behind links (x ∷ xs) lit at c o p d m =
       (get_or-set_other (set links at (get_or links lit 0)) lit at at 0 d ∙ get_or-set_same links at (get_or links lit 0) 0 m ∙ c.0,
        chain_kept (set links at (get_or links lit 0)) xs x lit at (chain_kept links xs x at (get_or links lit 0) c.1 (grind (arith, o))) p)
+
+-- The places of the literals are for no watch.
+abbrev pub AreHeads : ℕ → List ℕ → Type 0
+AreHeads literals watched = (place : ℕ) → place < literals → get_or watched place 0 ≡ 0
+
+-- what is for another literal, or for none, is not on the list
+pub off_list : (links watched : List ℕ) (lit place : ℕ) (t : IsThread links watched lit) → get_or watched place 0 ≢ lit → has t.list place ≡ false
+off_list links watched lit place t n = elim (tested (has t.list place)) [
+    inl on ↦ absurd (n ((t.exact place).0 on))
+  | inr off ↦ off ]
+
+pub off_way : (links watched : List ℕ) (lit place : ℕ) (t : IsThread links watched lit) → lit ≢ place → get_or watched place 0 ≢ lit → has (lit ∷ t.list) place ≡ false
+off_way links watched lit place t d n = grind (arith, d, off_list links watched lit place t n)
+
+-- the list that is read along the links is the literal's
+pub list_is : (literals : ℕ) (links watched xs : List ℕ) (lit : ℕ) (t : IsThread links watched lit) → 0 < literals → 0 < lit → AreHeads literals watched
+    → Chain links lit xs → has xs 0 ≡ false → xs ≡ t.list
+list_is literals links watched xs lit t z l h c o =
+  chain_same links xs t.list lit c t.read o (off_list links watched lit 0 t (λ q. let e : 0 ≡ lit = sym (h 0 z) ∙ q in omega arith))
+
+-- a thread that a write of one link and of one watch leaves as it was
+pub thread_kept : (links watched : List ℕ) (lit i u at new : ℕ) (t : IsThread links watched lit) → has (lit ∷ t.list) i ≡ false
+    → get_or watched at 0 ≢ lit → new ≢ lit → IsThread (set links i u) (set watched at new) lit
+thread_kept links watched lit i u at new t o n m = record {
+  list = t.list;
+  read = chain_kept links t.list lit i u t.read o;
+  once = t.once;
+  exact = λ s. elim (tested (eqb s at)) [
+      inl same ↦
+        let e : s ≡ at = grind (arith, same) in
+        (λ on. absurd (n (subst (λ k. get_or watched k 0 ≡ lit) e ((t.exact s).0 on))),
+         λ is. absurd (kept_apart watched s at new lit e n m is))
+    | inr other ↦
+        let d : s ≢ at = λ q. grind (arith, other, q) in
+        (λ on. get_or-set_other watched at s new 0 d ∙ (t.exact s).0 on, λ is. (t.exact s).1 (sym (get_or-set_other watched at s new 0 d) ∙ is)) ] }
+  where
+    kept_apart : (watched : List ℕ) (s at new lit : ℕ) → s ≡ at → get_or watched at 0 ≢ lit → new ≢ lit → get_or (set watched at new) s 0 ≡ lit → ⊥
+    kept_apart watched s at new lit e n m is = elim (tested (ltb at (length watched))) [
+        inl within ↦ let w : at < length watched = grind (arith, within) in
+          m (sym (get_or-set_same watched at new 0 w) ∙ ap (λ k. get_or (set watched at new) k 0) (sym e) ∙ is)
+      | inr past ↦ n (sym (ap (λ ws. get_or ws at 0) (set_past watched at new (grind (arith, past)))) ∙ ap (λ k. get_or (set watched at new) k 0) (sym e) ∙ is) ]
+
+-- a watch leaves its list, whose links lead over it behind to
+pub record IsOut (literals : ℕ) (links watched : List ℕ) (lit to at : ℕ) (front rest : List ℕ) : Type 0 where
+  pub threaded : Threaded literals (set links to (get_or links at 0)) (set watched at 0)
+  pub walked : Walk (set links to (get_or links at 0)) lit front to
+  pub left : Chain (set links to (get_or links at 0)) to rest
+  pub off : has (front ++ rest) at ≡ false
+
+pub unlinked : (literals : ℕ) (links watched front rest : List ℕ) (lit to at : ℕ) → Threaded literals links watched → AreHeads literals watched
+    → 0 < lit → lit < literals → literals ≤ length links → length watched ≡ length links → Walk links lit front to → Chain links to (at ∷ rest)
+    → ((s : ℕ) → get_or watched s 0 ≡ lit → s < length links) → has (front ++ at ∷ rest) 0 ≡ false
+    → IsOut literals links watched lit to at front rest
+unlinked literals links watched front rest lit to at th h z l big pair w c within no0 =
+  let t : IsThread links watched lit = th lit z l in
+  let whole : Chain links lit (front ++ at ∷ rest) = walk-chain links front (at ∷ rest) lit to w c in
+  let same : front ++ at ∷ rest ≡ t.list = list_is literals links watched (front ++ at ∷ rest) lit t (omega arith) z h whole no0 in
+  let once : EachOnce (front ++ at ∷ rest) = subst EachOnce (sym same) t.once in
+  let exact : (s : ℕ) → (has (front ++ at ∷ rest) s ≡ true) ↔ (get_or watched s 0 ≡ lit) = subst (λ xs. (s : ℕ) → (has xs s ≡ true) ↔ (get_or watched s 0 ≡ lit)) (sym same) t.exact in
+  let on : has (front ++ at ∷ rest) at ≡ true = has-append front (at ∷ rest) at ∙ grind arith in
+  let is_at : get_or watched at 0 ≡ lit = (exact at).0 on in
+  let head : has (front ++ at ∷ rest) lit ≡ false = ap (λ xs. has xs lit) same ∙ off_list links watched lit lit t (λ q. let e : 0 ≡ lit = sym (h lit l) ∙ q in omega arith) in
+  let between : EachOnce (front ++ rest) × (has (front ++ rest) at ≡ false) = once_between front rest at once in
+  let front_once : EachOnce (lit ∷ front) = (grind (arith, head, has-append front (at ∷ rest) lit), once_front front (at ∷ rest) once) in
+  let last : has (lit ∷ front) to ≡ true = walk_last links front lit to w in
+  let off_rest : has rest to ≡ false = end_off front rest lit to at head once last in
+  let to_is : (lit ≡ to) ⊎ (get_or watched to 0 ≡ lit) = end_is front rest lit to at watched exact last in
+  let to_within : to < length links = elim to_is [ inl e ↦ omega arith | inr e ↦ within to e ] in
+  let walked' : Walk (set links to (get_or links at 0)) lit front to = walk_end_kept links front lit to (get_or links at 0) w front_once in
+  let left' : Chain (set links to (get_or links at 0)) to rest = chain_out links rest to at c off_rest to_within in
+  record {
+    threaded = λ lit' z' l'. elim (tested (eqb lit' lit)) [
+        inl eq ↦
+          let e : lit ≡ lit' = grind (arith, eq) in
+          subst (IsThread (set links to (get_or links at 0)) (set watched at 0)) e (record {
+            list = front ++ rest;
+            read = walk-chain (set links to (get_or links at 0)) front rest lit to walked' left';
+            once = between.0;
+            exact = out_exact watched front rest lit at z (omega (arith, within at is_at)) exact between.1 })
+      | inr ne ↦
+          let d : lit ≢ lit' = λ q. grind (arith, ne, q) in
+          let t' : IsThread links watched lit' = th lit' z' l' in
+          let off : has (lit' ∷ t'.list) to ≡ false = elim to_is [
+              inl e ↦ off_way links watched lit' to t' (λ q. d (e ∙ sym q)) (λ q. let p : 0 ≡ lit' = sym (h lit l) ∙ ap (λ k. get_or watched k 0) e ∙ q in omega arith)
+            | inr e ↦ off_way links watched lit' to t' (λ q. let p : 0 ≡ lit = sym (h lit' l') ∙ ap (λ k. get_or watched k 0) q ∙ e in omega arith) (λ q. d (sym e ∙ q)) ] in
+          thread_kept links watched lit' to (get_or links at 0) at 0 t' off (λ q. d (sym is_at ∙ q)) (λ q. omega arith) ];
+    walked = walked';
+    left = left';
+    off = between.1 }
+  where
+    once_front : (front more : List ℕ) → EachOnce (front ++ more) → EachOnce front
+    once_front [] more o = tt
+    once_front (y ∷ ys) more o = (grind (arith, has-append ys more y, o.0), once_front ys more o.1)
+    end_off : (front rest : List ℕ) (lit to at : ℕ) → has (front ++ at ∷ rest) lit ≡ false → EachOnce (front ++ at ∷ rest) → has (lit ∷ front) to ≡ true → has rest to ≡ false
+    end_off front rest lit to at n o h = elim (tested (eqb lit to)) [
+        inl same ↦ let e : lit ≡ to = grind (arith, same) in ap (has rest) (sym e) ∙ grind (arith, n, has-append front (at ∷ rest) lit)
+      | inr other ↦ let off : has (at ∷ rest) to ≡ false = apart_parts front (at ∷ rest) to o (grind (arith, h, other)) in grind (arith, off) ]
+      where
+        apart_parts : (front more : List ℕ) (x : ℕ) → EachOnce (front ++ more) → has front x ≡ true → has more x ≡ false
+        apart_parts [] more x o h = absurd (grind arith)
+        apart_parts (y ∷ ys) more x o h = elim (tested (eqb y x)) [
+            inl same ↦ let e : y ≡ x = grind (arith, same) in ap (has more) (sym e) ∙ grind (arith, o.0, has-append ys more y)
+          | inr other ↦ apart_parts ys more x o.1 (grind (arith, h, other)) ]
+    end_is : (front rest : List ℕ) (lit to at : ℕ) (watched : List ℕ) → ((s : ℕ) → (has (front ++ at ∷ rest) s ≡ true) ↔ (get_or watched s 0 ≡ lit)) → has (lit ∷ front) to ≡ true
+        → (lit ≡ to) ⊎ (get_or watched to 0 ≡ lit)
+    end_is front rest lit to at watched exact h = elim (tested (eqb lit to)) [
+        inl same ↦ inl (grind (arith, same))
+      | inr other ↦ inr ((exact to).0 (has-append front (at ∷ rest) to ∙ grind (arith, h, other))) ]
+    out_exact : (watched front rest : List ℕ) (lit at : ℕ) → 0 < lit → at < length watched → ((s : ℕ) → (has (front ++ at ∷ rest) s ≡ true) ↔ (get_or watched s 0 ≡ lit)) → has (front ++ rest) at ≡ false
+        → (s : ℕ) → (has (front ++ rest) s ≡ true) ↔ (get_or (set watched at 0) s 0 ≡ lit)
+    out_exact watched front rest lit at z w exact off s = elim (tested (eqb s at)) [
+        inl same ↦
+          let e : s ≡ at = grind (arith, same) in
+          (λ on. absurd (let both : true ≡ false = sym on ∙ ap (has (front ++ rest)) e ∙ off in cc),
+           λ is. absurd (let p : 0 ≡ lit = sym (get_or-set_same watched at 0 0 w) ∙ ap (λ k. get_or (set watched at 0) k 0) (sym e) ∙ is in omega arith))
+      | inr other ↦
+          let d : s ≢ at = λ q. grind (arith, other, q) in
+          (λ on. get_or-set_other watched at s 0 0 d ∙ (exact s).0 (sym (has_between front rest at s d) ∙ on),
+           λ is. has_between front rest at s d ∙ (exact s).1 (sym (get_or-set_other watched at s 0 0 d) ∙ is)) ]
+
+-- a watch that is in no list comes to the front of one
+pub pushed : (literals : ℕ) (links watched : List ℕ) (lit at : ℕ) → Threaded literals links watched → AreHeads literals watched → get_or watched at 0 ≡ 0
+    → literals ≤ at → at < length links → length watched ≡ length links → 0 < lit → lit < literals
+    → Threaded literals (set (set links at (get_or links lit 0)) lit at) (set watched at lit)
+pushed literals links watched lit at th h free l w pair z lt lit' z' l' = elim (tested (eqb lit' lit)) [
+    inl eq ↦ let e : lit ≡ lit' = grind (arith, eq) in
+      subst (IsThread (set (set links at (get_or links lit 0)) lit at) (set watched at lit)) e (pushed_here literals links watched lit at (th lit z lt) h free l w pair z lt)
+  | inr ne ↦
+      let d : lit ≢ lit' = λ q. grind (arith, ne, q) in
+      let t' : IsThread links watched lit' = th lit' z' l' in
+      let off_at : has (lit' ∷ t'.list) at ≡ false = off_way links watched lit' at t' (λ q. omega arith) (λ q. let p : 0 ≡ lit' = sym free ∙ q in omega arith) in
+      let off_lit : has (lit' ∷ t'.list) lit ≡ false = off_way links watched lit' lit t' (λ q. d (sym q)) (λ q. let p : 0 ≡ lit' = sym (h lit lt) ∙ q in omega arith) in
+      let one : IsThread (set links at (get_or links lit 0)) watched lit' = record {
+        list = t'.list;
+        read = chain_kept links t'.list lit' at (get_or links lit 0) t'.read off_at;
+        once = t'.once;
+        exact = t'.exact } in
+      thread_kept (set links at (get_or links lit 0)) watched lit' lit at at lit one off_lit (λ q. let p : 0 ≡ lit' = sym free ∙ q in omega arith) d ]
+  where
+    pushed_here : (literals : ℕ) (links watched : List ℕ) (lit at : ℕ) → IsThread links watched lit → AreHeads literals watched → get_or watched at 0 ≡ 0
+        → literals ≤ at → at < length links → length watched ≡ length links → 0 < lit → lit < literals
+        → IsThread (set (set links at (get_or links lit 0)) lit at) (set watched at lit) lit
+    pushed_here literals links watched lit at t h free l w pair z lt =
+      let off_at : has (lit ∷ t.list) at ≡ false = off_way links watched lit at t (λ q. omega arith) (λ q. let p : 0 ≡ lit = sym free ∙ q in omega arith) in
+      let off_lit : has t.list lit ≡ false = off_list links watched lit lit t (λ q. let p : 0 ≡ lit = sym (h lit lt) ∙ q in omega arith) in
+      record {
+        list = at ∷ t.list;
+        read = chain_in links t.list lit at t.read off_at off_lit (omega arith) w;
+        once = (grind (arith, off_at), t.once);
+        exact = λ s. elim (tested (eqb s at)) [
+            inl same ↦
+              let e : s ≡ at = grind (arith, same) in
+              (λ on. ap (λ k. get_or (set watched at lit) k 0) e ∙ get_or-set_same watched at lit 0 (omega arith),
+               λ is. grind (arith, e))
+          | inr other ↦
+              let d : s ≢ at = λ q. grind (arith, other, q) in
+              (λ on. get_or-set_other watched at s lit 0 d ∙ (t.exact s).0 (grind (arith, on, d)),
+               λ is. let old : has t.list s ≡ true = (t.exact s).1 (sym (get_or-set_other watched at s lit 0 d) ∙ is) in grind (arith, old)) ] }
+
+-- a walk that neither write touches
+pub walk_pushed : (links xs : List ℕ) (from to at lit u : ℕ) → Walk links from xs to → has (from ∷ xs) at ≡ false → has (from ∷ xs) lit ≡ false → Walk (set (set links at u) lit at) from xs to
+walk_pushed links xs from to at lit u w o p = walk_kept (set links at u) xs from to lit at (walk_kept links xs from to at u w o) p
+
+pub chain_pushed : (links xs : List ℕ) (from at lit u : ℕ) → Chain links from xs → has (from ∷ xs) at ≡ false → has (from ∷ xs) lit ≡ false → Chain (set (set links at u) lit at) from xs
+chain_pushed links xs from at lit u c o p = chain_kept (set links at u) xs from lit at (chain_kept links xs from at u c o) p
