@@ -2,3 +2,4 @@ pub mod LiteralLemmas
 pub mod RightLemmas
 pub mod ThreadLemmas
 pub mod TrailLemmas
+pub mod WatchLemmas

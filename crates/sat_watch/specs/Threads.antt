@@ -1,7 +1,8 @@
 -- Watch lists as links by index. A literal's list begins at the place of its number; a watch has a place of its own
 -- behind all literals. The link of a place is the next watch, and 0 at the end.
-use Rattle.std.specs.Prelude.{◌≡◌, ℕ, ◌+◌, ◌*◌, ◌<◌, ◌≤◌, ◌^◌, ◌↔◌, List, [], ◌∷◌, true, length, slice_index, slice_index_or}
+use Rattle.std.specs.Prelude.{◌≡◌, ℕ, ◌+◌, ◌*◌, ◌<◌, ◌≤◌, ◌^◌, ◌↔◌, List, [], ◌∷◌, true, All, length, slice_index, slice_index_or}
 use Rattle.cnf_core.specs.Clauses.{Clauses}
+use Rattle.cnf_core.specs.Literal.{IsOver}
 use Rattle.sat_watch.specs.Literals.{has, EachOnce}
 
 -- From a place the links lead over the watches to the end.
@@ -25,8 +26,9 @@ pub record IsThread (links watched : List ℕ) (lit : ℕ) : Type 0 where
 abbrev pub Threaded : ℕ → List ℕ → List ℕ → Type 0
 Threaded literals links watched = (lit : ℕ) → 0 < lit → lit < literals → IsThread links watched lit
 
--- Two literals at least, none of them twice.
-pub record CanWatch (clause : List ℕ) : Type 0 where
+-- Two literals at least, none of them twice, over the variables.
+pub record CanWatch (vars : ℕ) (clause : List ℕ) : Type 0 where
+  pub over : All (IsOver vars) clause
   pub two : 2 ≤ length clause
   pub once : EachOnce clause
 
@@ -38,4 +40,4 @@ pub record IsWatches (cnf : Clauses) (links watched : List ℕ) : Type 0 where
   pub heads : (place : ℕ) → place < 2 * (cnf.vars + 1) → slice_index watched place ≡ 0
   pub over : (place : ℕ) → slice_index watched place < 2 * (cnf.vars + 1)
   pub threaded : Threaded (2 * (cnf.vars + 1)) links watched
-  pub clauses : (clause : ℕ) → clause < length cnf.clauses → CanWatch (slice_index_or cnf.clauses clause [])
+  pub clauses : (clause : ℕ) → clause < length cnf.clauses → CanWatch cnf.vars (slice_index_or cnf.clauses clause [])

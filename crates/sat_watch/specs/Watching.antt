@@ -1,5 +1,5 @@
 -- Which clause watches which of its literals, and when that fits a trail.
-use Rattle.std.specs.Prelude.{◌≡◌, ◌≢◌, ℕ, ◌+◌, ◌-◌, ◌*◌, ◌/◌, ◌<◌, ◌≤◌, true, List, [], length, slice_index, slice_index_or}
+use Rattle.std.specs.Prelude.{◌≡◌, ◌≢◌, ℕ, ◌+◌, ◌-◌, ◌*◌, ◌/◌, ◌<◌, ◌≤◌, ◌==◌, if◌then◌else◌, true, List, [], length, slice_index, slice_index_or}
 use Rattle.cnf_core.specs.Literal.{negated}
 use Rattle.sat_watch.specs.Literals.{has}
 use Rattle.sat_watch.specs.Trail.{TrailState, literals, levels}
@@ -25,6 +25,10 @@ clause_of w watch = slice_index_or w.clauses (watch / 2 - (w.vars + 1)) []
 
 abbrev pub IsWatch : WatchState → ℕ → Type 0
 IsWatch w watch = (2 * (w.vars + 1) ≤ watch) × (watch < 2 * (w.vars + 1 + length w.clauses))
+
+-- the watch by which a clause watches a literal: the first, or else the second
+abbrev pub side_of : WatchState → ℕ → ℕ → ℕ
+side_of w clause lit = if slice_index w.watched (watch_of w clause) == lit then watch_of w clause else watch_of w clause + 1
 
 -- The watch is for a literal of its clause, and not for the one of its twin.
 pub record IsSet (w : WatchState) (watch : ℕ) : Type 0 where
