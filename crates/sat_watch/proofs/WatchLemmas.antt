@@ -11,7 +11,7 @@ use Rattle.sat_watch.specs.Threads.{Chain, Walk, IsThread, Threaded, CanWatch, I
 use Rattle.sat_watch.specs.Visit.{read, state}
 use Rattle.sat_watch.specs.Watching.{WatchState, watch_of, side_of, twin, clause_of, IsWatch, IsSet}
 use Rattle.sat_watch.proofs.LiteralLemmas.{tested, halves, negated-half}
-use Rattle.sat_watch.proofs.ThreadLemmas.{has-append, AreHeads, off_list, list_is, unlinked, IsOut, pushed, walk_pushed, chain_pushed, walk-chain, chain_kept}
+use Rattle.sat_watch.proofs.ThreadLemmas.{has-append, AreHeads, off_list, list_is, unlinked, IsOut, pushed, walk_pushed, chain_pushed, walk-chain, walk-push, chain_kept, walk_last}
 
 -- one more place at the end, for no watch, reads as before
 pub get_more : (watched : List ℕ) (s : ℕ) → get_or (watched ++ 0 ∷ []) s 0 ≡ get_or watched s 0
@@ -143,3 +143,150 @@ pub way_read : (vars : ℕ) (clauses : List (List ℕ)) (links watched front res
     → 0 < lit → lit < 2 * (vars + 1) → IsWay links watched lit at front rest → read links (length links) at ≡ rest
 way_read vars clauses links watched front rest lit at i z l y =
   read_chain links rest (length links) at y.left (grind (arith, y.ends, has-append front rest 0)) (way_few vars clauses links watched front rest lit at i z l y)
+
+-- the next watch of a way
+pub record IsNext (links watched : List ℕ) (literals lit to at : ℕ) (front rest : List ℕ) : Type 0 where
+  pub for : get_or watched at 0 ≡ lit
+  pub behind : literals ≤ at
+  pub inside : at < length links
+  pub from : to < length links
+
+pub way_next : (vars : ℕ) (clauses : List (List ℕ)) (links watched front rest : List ℕ) (lit to at : ℕ) → IsWatches (record { vars = vars; clauses = clauses }) links watched
+    → 0 < lit → lit < 2 * (vars + 1) → IsWay links watched lit to front (at ∷ rest) → IsNext links watched (2 * (vars + 1)) lit to at front rest
+way_next vars clauses links watched front rest lit to at i z l y =
+  let t : IsThread links watched lit = i.threaded lit z l in
+  let same : front ++ at ∷ rest ≡ t.list = way_list vars clauses links watched front (at ∷ rest) lit to i z l y in
+  let on : has t.list at ≡ true = ap (λ xs. has xs at) (sym same) ∙ has-append front (at ∷ rest) at ∙ grind arith in
+  let is : get_or watched at 0 ≡ lit = (t.exact at).0 on in
+  let last : has (lit ∷ front) to ≡ true = walk_last links front lit to y.walked in
+  let within : at < length watched = within_by watched at lit z is in
+  record {
+    for = is;
+    behind = elim (tested (ltb at (2 * (vars + 1)))) [
+        inl low ↦ absurd (let q : 0 ≡ lit = sym (i.heads at (grind (arith, low))) ∙ is in omega arith)
+      | inr high ↦ grind (arith, high) ];
+    inside = omega (arith, i.paired);
+    from = elim (tested (eqb lit to)) [
+        inl here ↦ let e : lit ≡ to = grind (arith, here) in omega (arith, i.linked)
+      | inr there ↦
+          let in_front : has front to ≡ true = grind (arith, last, there) in
+          let on' : has t.list to ≡ true = ap (λ xs. has xs to) (sym same) ∙ has-append front (at ∷ rest) to ∙ grind (arith, in_front) in
+          let w : to < length watched = within_by watched to lit z ((t.exact to).0 on') in omega (arith, i.paired) ] }
+
+-- a watch that moves: it leaves its list and comes to the front of another
+pub record IsMoved (vars : ℕ) (clauses : List (List ℕ)) (links watched : List ℕ) (lit to : ℕ) (front rest : List ℕ) : Type 0 where
+  pub whole : IsWatches (record { vars = vars; clauses = clauses }) links watched
+  pub way : IsWay links watched lit to front rest
+
+pub moved : (vars : ℕ) (clauses : List (List ℕ)) (links watched front rest : List ℕ) (lit to at new : ℕ) → IsWatches (record { vars = vars; clauses = clauses }) links watched
+    → 0 < lit → lit < 2 * (vars + 1) → IsWay links watched lit to front (at ∷ rest) → 0 < new → new < 2 * (vars + 1) → new ≢ lit
+    → IsMoved vars clauses (set (set (set links to (get_or links at 0)) at (get_or (set links to (get_or links at 0)) new 0)) new at) (set watched at new) lit to front rest
+moved vars clauses links watched front rest lit to at new i z l y zn ln d =
+  let next : IsNext links watched (2 * (vars + 1)) lit to at front rest = way_next vars clauses links watched front rest lit to at i z l y in
+  let t : IsThread links watched lit = i.threaded lit z l in
+  let same : front ++ at ∷ rest ≡ t.list = way_list vars clauses links watched front (at ∷ rest) lit to i z l y in
+  let out : IsOut (2 * (vars + 1)) links watched lit to at front rest =
+    unlinked (2 * (vars + 1)) links watched front rest lit to at i.threaded i.heads z l (omega (arith, i.linked)) i.paired y.walked y.left
+      (λ s e. let w : s < length watched = within_by watched s lit z e in omega (arith, i.paired)) y.ends in
+  let links₁ = set links to (get_or links at 0) in
+  let len : length links₁ ≡ length links = length-set links to (get_or links at 0) in
+  let heads : AreHeads (2 * (vars + 1)) (set watched at 0) = λ place h. let a : place ≢ at = λ q. omega (arith, next.behind) in get_or-set_other watched at place 0 0 a ∙ i.heads place h in
+  let free : get_or (set watched at 0) at 0 ≡ 0 = get_or-set_same watched at 0 0 (omega (arith, next.inside, i.paired)) in
+  let th : Threaded (2 * (vars + 1)) (set (set links₁ at (get_or links₁ new 0)) new at) (set (set watched at 0) at new) =
+    pushed (2 * (vars + 1)) links₁ (set watched at 0) new at out.threaded heads free next.behind (omega (arith, next.inside)) (omega (arith, length-set watched at 0, i.paired)) zn ln in
+  let th' : Threaded (2 * (vars + 1)) (set (set links₁ at (get_or links₁ new 0)) new at) (set watched at new) =
+    subst (Threaded (2 * (vars + 1)) (set (set links₁ at (get_or links₁ new 0)) new at)) (set-set watched at 0 new) th in
+  let new_off : has (front ++ at ∷ rest) new ≡ false = ap (λ xs. has xs new) same ∙ off_list links watched lit new t (λ q. let e : 0 ≡ lit = sym (i.heads new ln) ∙ q in omega arith) in
+  let off : has (front ++ rest) at ≡ false = out.off in
+  let parts = has-append front (at ∷ rest) new in
+  let joined = has-append front rest at in
+  let last : has (lit ∷ front) to ≡ true = walk_last links front lit to y.walked in
+  let front_at : has (lit ∷ front) at ≡ false = let a : lit ≢ at = λ q. omega (arith, next.behind) in grind (arith, a, off, joined) in
+  let front_new : has (lit ∷ front) new ≡ false = grind (arith, d, new_off, parts) in
+  let to_at : to ≢ at = apart_on (lit ∷ front) to at last front_at in
+  let to_new : to ≢ new = apart_on (lit ∷ front) to new last front_new in
+  record {
+    whole = watches_written vars clauses links watched (set (set links₁ at (get_or links₁ new 0)) new at) at new i next.behind ln
+      (length-set (set links₁ at (get_or links₁ new 0)) new at ∙ length-set links₁ at (get_or links₁ new 0) ∙ len) th';
+    way = record {
+      walked = walk_pushed links₁ front lit to at new (get_or links₁ new 0) out.walked front_at front_new;
+      left = chain_pushed links₁ rest to at new (get_or links₁ new 0) out.left (grind (arith, to_at, off, joined)) (grind (arith, to_new, new_off, parts));
+      ends = grind (arith, y.ends, has-append front rest 0, has-append front (at ∷ rest) 0) } }
+  where
+    apart_on : (xs : List ℕ) (x y : ℕ) → has xs x ≡ true → has xs y ≡ false → x ≢ y
+    apart_on xs x y h n e = let both : true ≡ false = sym h ∙ ap (has xs) e ∙ n in cc
+
+pub twin_even : (n : ℕ) → twin (2 * n) ≡ 2 * n + 1
+twin_even n = elim (halves (2 * n)) [ inl h ↦ h.1 | inr h ↦ absurd (omega (arith, h.0)) ]
+
+pub twin_odd : (n : ℕ) → twin (2 * n + 1) ≡ 2 * n
+twin_odd n = elim (halves (2 * n + 1)) [ inl h ↦ absurd (omega (arith, h.0)) | inr h ↦ h.1 ∙ omega arith ]
+
+-- the literals of a clause that can watch
+pub record AreTwo (vars : ℕ) (clause : List ℕ) (first second : ℕ) : Type 0 where
+  pub has_first : has clause first ≡ true
+  pub has_second : has clause second ≡ true
+  pub apart : first ≢ second
+  pub first_over : IsOver vars first
+  pub second_over : IsOver vars second
+
+pub first_two : (vars : ℕ) (clause : List ℕ) → CanWatch vars clause → AreTwo vars clause (get_or clause 0 0) (get_or clause 1 0)
+first_two vars [] c = absurd (omega (arith, c.two))
+first_two vars (x ∷ []) c = absurd (omega (arith, c.two))
+first_two vars (x ∷ y ∷ xs) c = record {
+  has_first = grind arith;
+  has_second = grind arith;
+  apart = λ q. grind (arith, c.once.0, q);
+  first_over = c.over 0 0 (omega arith);
+  second_over = c.over 1 0 (omega arith) }
+
+-- a clause that watches two of its literals
+pub set_both : (w : WatchState) (clause first second : ℕ) → get_or w.watched (2 * (w.vars + 1 + clause)) 0 ≡ first → get_or w.watched (2 * (w.vars + 1 + clause) + 1) 0 ≡ second
+    → has (get_or w.clauses clause []) first ≡ true → has (get_or w.clauses clause []) second ≡ true → first ≢ second
+    → IsSet w (2 * (w.vars + 1 + clause)) × IsSet w (2 * (w.vars + 1 + clause) + 1)
+set_both w clause first second f s hf hs d =
+  let n = w.vars + 1 + clause in
+  let even : 2 * n / 2 - (w.vars + 1) ≡ clause = omega arith in
+  let odd : (2 * n + 1) / 2 - (w.vars + 1) ≡ clause = omega arith in
+  let one : get_or w.watched (twin (2 * n)) 0 ≡ second = ap (λ k. get_or w.watched k 0) (twin_even n) ∙ s in
+  let two : get_or w.watched (twin (2 * n + 1)) 0 ≡ first = ap (λ k. get_or w.watched k 0) (twin_odd n) ∙ f in
+  (record {
+     inside = ap (has (clause_of w (2 * n))) f ∙ ap (λ k. has (get_or w.clauses k []) first) even ∙ hf;
+     apart = λ q. d (sym f ∙ q ∙ one) },
+   record {
+     inside = ap (has (clause_of w (2 * n + 1))) s ∙ ap (λ k. has (get_or w.clauses k []) second) odd ∙ hs;
+     apart = λ q. d (sym (sym s ∙ q ∙ two)) })
+
+-- a clause that is in no list comes into the lists of two of its literals
+pub record IsWatched (vars : ℕ) (clauses : List (List ℕ)) (links watched : List ℕ) (clause : ℕ) : Type 0 where
+  pub whole : IsWatches (record { vars = vars; clauses = clauses }) links watched
+  pub first : IsSet (record { vars = vars; clauses = clauses; watched = watched }) (2 * (vars + 1 + clause))
+  pub second : IsSet (record { vars = vars; clauses = clauses; watched = watched }) (2 * (vars + 1 + clause) + 1)
+
+pub watched_both : (vars : ℕ) (clauses : List (List ℕ)) (links watched : List ℕ) (clause at first second : ℕ) → IsWatches (record { vars = vars; clauses = clauses }) links watched
+    → clause < length clauses → at ≡ 2 * (vars + 1 + clause) → get_or watched at 0 ≡ 0 → get_or watched (at + 1) 0 ≡ 0
+    → first ≡ get_or (get_or clauses clause []) 0 0 → second ≡ get_or (get_or clauses clause []) 1 0
+    → (links' : List ℕ) → links' ≡ set (set links at (get_or links first 0)) first at
+    → IsWatched vars clauses (set (set links' (at + 1) (get_or links' second 0)) second (at + 1)) (set (set watched at first) (at + 1) second) clause
+watched_both vars clauses links watched clause at first second i l a free free' f s links' lk =
+  let two : AreTwo vars (get_or clauses clause []) (get_or (get_or clauses clause []) 0 0) (get_or (get_or clauses clause []) 1 0) = first_two vars (get_or clauses clause []) (i.clauses clause l) in
+  let fo : IsOver vars first = subst (IsOver vars) (sym f) two.first_over in
+  let so : IsOver vars second = subst (IsOver vars) (sym s) two.second_over in
+  let i₁ : IsWatches (record { vars = vars; clauses = clauses }) links' (set watched at first) =
+    subst (λ ls. IsWatches (record { vars = vars; clauses = clauses }) ls (set watched at first)) (sym lk)
+      (watches_pushed vars clauses links watched at first i (omega arith) (omega (arith, i.linked)) (omega (arith, fo)) (omega (arith, fo)) free) in
+  let wide : length watched ≡ 2 * (vars + 1 + length clauses) = i.paired ∙ i.linked in
+  let other : at + 1 ≢ at = λ q. omega arith in
+  let free₁ : get_or (set watched at first) (at + 1) 0 ≡ 0 = get_or-set_other watched at (at + 1) first 0 other ∙ free' in
+  let here : get_or (set (set watched at first) (at + 1) second) at 0 ≡ first =
+    get_or-set_other (set watched at first) (at + 1) at second 0 (λ q. omega arith) ∙ get_or-set_same watched at first 0 (omega arith) in
+  let there : get_or (set (set watched at first) (at + 1) second) (at + 1) 0 ≡ second =
+    get_or-set_same (set watched at first) (at + 1) second 0 (omega (arith, length-set watched at first)) in
+  let both = set_both (record { vars = vars; clauses = clauses; watched = set (set watched at first) (at + 1) second }) clause first second
+    (ap (λ k. get_or (set (set watched at first) (at + 1) second) k 0) (sym a) ∙ here)
+    (ap (λ k. get_or (set (set watched at first) (at + 1) second) (k + 1) 0) (sym a) ∙ there)
+    (ap (has (get_or clauses clause [])) f ∙ two.has_first) (ap (has (get_or clauses clause [])) s ∙ two.has_second) (λ q. two.apart (sym f ∙ q ∙ s)) in
+  record {
+    whole = watches_pushed vars clauses links' (set watched at first) (at + 1) second i₁ (omega arith) (omega (arith, i₁.linked)) (omega (arith, so)) (omega (arith, so)) free₁;
+    first = both.0;
+    second = both.1 }

@@ -1,0 +1,17 @@
+use Rattle.std.proofs.Common.{◌≡◌, ◌<◌, ◌+◌, ◌^◌, List, ℕ, length, ap, subst, sym, refl, ◌∙◌, arith, ◌++◌, ◌∷◌, []}
+use Rattle.cnf_core.specs.Clauses.{Clauses}
+use Rattle.sat_watch.specs.Threads.{CanWatch}
+use Rattle.sat_watch.proofs.WatchLemmas.{watches_more}
+use Rattle.sat_watch.proofs.watches.Watches.add.Goals as goal
+
+pub invariant_of-self-2 : goal.invariant_of-self-2
+invariant_of-self-2 c =
+  let pushed : c.push_clause.new.self ≡ record c.self.inside.clauses { clauses = c.self.inside.clauses.clauses ++ c.args.lits.now ∷ [] } = c.in_ok-push_clause.ensures.ok in
+  let can : CanWatch c.self.inside.clauses.vars c.args.lits.now = subst (λ w. CanWatch w.vars c.args.lits.now) (sym c.self.view_is) c.requires in
+  let links : c.push_reserved-2.new.self.items ≡ (c.self.inside.links.items ++ 0 ∷ []) ++ 0 ∷ [] =
+    c.push_reserved-2.ensures.items ∙ ap (λ xs. xs ++ 0 ∷ []) c.push_reserved.ensures.items ∙ ap (λ xs. (xs ++ 0 ∷ []) ++ 0 ∷ []) c.reserve.ensures.items in
+  let watched : c.push_reserved-4.new.self.items ≡ (c.self.inside.watched.items ++ 0 ∷ []) ++ 0 ∷ [] =
+    c.push_reserved-4.ensures.items ∙ ap (λ xs. xs ++ 0 ∷ []) c.push_reserved-3.ensures.items ∙ ap (λ xs. (xs ++ 0 ∷ []) ++ 0 ∷ []) c.reserve-2.ensures.items in
+  rw pushed (watches_more c.self.inside.clauses.vars c.self.inside.clauses.clauses (c.self.inside.clauses.clauses ++ c.args.lits.now ∷ []) c.self.inside.links.items c.self.inside.watched.items
+    c.push_reserved-2.new.self.items c.push_reserved-4.new.self.items c.args.lits.now c.self.invariant can
+    (omega (arith, c.clauses-clause.ensures, c.vars.ensures.value, c.if-vars-clause-ge-MOST.false)) refl links watched)
