@@ -2,7 +2,7 @@
 use Rattle.std.proofs.Common.{◌≡◌, ◌≢◌, ◌↔◌, ℕ, zero, suc, ◌+◌, ◌-◌, ◌*◌, ◌/◌, ◌%◌, ◌<◌, ◌≤◌, ◌^◌, Bool, true, false, cond, eqb, ltb, not, ◌||◌, List, [], ◌∷◌, ◌++◌, length, get_or, set, refl, sym, ap, ◌∙◌, subst, inl, inr, ◌⊎◌, All, arith, rules, get_or-set_same, get_or-set_other, length-append}
 use Rattle.std.proofs.Math.ListN.{length-set}
 use Rattle.std.specs.List.{list_any, AllByRecursion, IsDistinct}
-use Rattle.std.proofs.lemmas.List.{set_past, set-set, get_or_past, get_or_append_left, get_or_push, length_push, get_or_default}
+use Rattle.std.proofs.lemmas.List.{set_past, set-set, get_or_past, get_or_append_left, get_or_push, length_push, get_or_default, get_or_read, append_assoc}
 use Rattle.std.proofs.lemmas.Map.Steps.{length-le_from_distinct_below}
 use Rattle.cnf_core.specs.Clauses.{Clauses}
 use Rattle.cnf_core.specs.Literal.{negated, IsOver}
@@ -290,3 +290,90 @@ watched_both vars clauses links watched clause at first second i l a free free' 
     whole = watches_pushed vars clauses links' (set watched at first) (at + 1) second i₁ (omega arith) (omega (arith, i₁.linked)) (omega (arith, so)) (omega (arith, so)) free₁;
     first = both.0;
     second = both.1 }
+
+-- The links lead from a place of a literal's list on to a watch of it.
+pub record Leads (links watched : List ℕ) (lit to at : ℕ) : Type 0 where
+  pub front : List ℕ
+  pub rest : List ℕ
+  pub way : IsWay links watched lit to front rest
+  pub on : has rest at ≡ true
+
+pub way_start : (vars : ℕ) (clauses : List (List ℕ)) (links watched : List ℕ) (lit : ℕ) → (i : IsWatches (record { vars = vars; clauses = clauses }) links watched)
+    → (z : 0 < lit) → (l : lit < 2 * (vars + 1)) → IsWay links watched lit lit [] (i.threaded lit z l).list
+way_start vars clauses links watched lit i z l =
+  let t : IsThread links watched lit = i.threaded lit z l in
+  record { walked = refl; left = t.read; ends = off_list links watched lit 0 t (λ q. let e : 0 ≡ lit = sym (i.heads 0 (omega arith)) ∙ q in omega arith) }
+
+pub way_step : (links watched front rest : List ℕ) (lit to x : ℕ) → IsWay links watched lit to front (x ∷ rest) → IsWay links watched lit x (front ++ x ∷ []) rest
+way_step links watched front rest lit to x y = record {
+  walked = walk-push links front lit to x y.walked y.left.0;
+  left = y.left.1;
+  ends = ap (λ xs. has xs 0) (append_assoc front (x ∷ []) rest) ∙ y.ends }
+
+pub leads_start : (vars : ℕ) (clauses : List (List ℕ)) (links watched : List ℕ) (lit at : ℕ) → IsWatches (record { vars = vars; clauses = clauses }) links watched
+    → 0 < lit → lit < 2 * (vars + 1) → get_or watched at 0 ≡ lit → Leads links watched lit lit at
+leads_start vars clauses links watched lit at i z l e = record {
+  front = [];
+  rest = (i.threaded lit z l).list;
+  way = way_start vars clauses links watched lit i z l;
+  on = ((i.threaded lit z l).exact at).1 e }
+
+-- the next watch on the way
+pub record IsStep (links watched : List ℕ) (literals lit to at : ℕ) : Type 0 where
+  pub next : ℕ
+  pub front : List ℕ
+  pub rest : List ℕ
+  pub way : IsWay links watched lit to front (next ∷ rest)
+  pub on : has (next ∷ rest) at ≡ true
+  pub is : get_or links to 0 ≡ next
+  pub known : IsNext links watched literals lit to next front rest
+
+pub leads_step : (vars : ℕ) (clauses : List (List ℕ)) (links watched : List ℕ) (lit to at : ℕ) → IsWatches (record { vars = vars; clauses = clauses }) links watched
+    → 0 < lit → lit < 2 * (vars + 1) → Leads links watched lit to at → IsStep links watched (2 * (vars + 1)) lit to at
+leads_step vars clauses links watched lit to at i z l leads = go leads.front leads.rest leads.way leads.on
+  where
+    go : (front rest : List ℕ) → IsWay links watched lit to front rest → has rest at ≡ true → IsStep links watched (2 * (vars + 1)) lit to at
+    go front [] way on = absurd (grind (arith, on))
+    go front (x ∷ rest) way on = record {
+      next = x; front = front; rest = rest; way = way; on = on; is = way.left.0;
+      known = way_next vars clauses links watched front rest lit to x i z l way }
+
+pub leads_on : (vars : ℕ) (clauses : List (List ℕ)) (links watched : List ℕ) (lit to at n : ℕ) → IsWatches (record { vars = vars; clauses = clauses }) links watched
+    → 0 < lit → lit < 2 * (vars + 1) → Leads links watched lit to at → n ≡ get_or links to n → n ≢ at
+    → Leads links watched lit n at × (length (read links (length links) n) < length (read links (length links) to))
+leads_on vars clauses links watched lit to at n i z l leads e d =
+  let s : IsStep links watched (2 * (vars + 1)) lit to at = leads_step vars clauses links watched lit to at i z l leads in
+  let is : n ≡ s.next = get_or_read links to n s.known.from e 0 ∙ s.is in
+  let apart : s.next ≢ at = λ q. d (is ∙ q) in
+  let way : IsWay links watched lit s.next (s.front ++ s.next ∷ []) s.rest = way_step links watched s.front s.rest lit to s.next s.way in
+  let here : read links (length links) to ≡ s.next ∷ s.rest = way_read vars clauses links watched s.front (s.next ∷ s.rest) lit to i z l s.way in
+  let there : read links (length links) s.next ≡ s.rest = way_read vars clauses links watched (s.front ++ s.next ∷ []) s.rest lit s.next i z l way in
+  (subst (λ k. Leads links watched lit k at) (sym is) (record { front = s.front ++ s.next ∷ []; rest = s.rest; way = way; on = grind (arith, s.on, apart) }),
+   let lt : length (read links (length links) s.next) < length (read links (length links) to) = rw (here, there) (omega arith) in
+   subst (λ k. length (read links (length links) k) < length (read links (length links) to)) (sym is) lt)
+
+pub leads_at : (vars : ℕ) (clauses : List (List ℕ)) (links watched : List ℕ) (lit to at n new : ℕ) → IsWatches (record { vars = vars; clauses = clauses }) links watched
+    → 0 < lit → lit < 2 * (vars + 1) → Leads links watched lit to at → n ≡ get_or links to n → n ≡ at → 0 < new → new < 2 * (vars + 1) → new ≢ lit
+    → IsWatches (record { vars = vars; clauses = clauses }) (set (set (set links to (get_or links at 0)) at (get_or (set links to (get_or links at 0)) new 0)) new at) (set watched at new)
+leads_at vars clauses links watched lit to at n new i z l leads e q zn ln d =
+  let s : IsStep links watched (2 * (vars + 1)) lit to at = leads_step vars clauses links watched lit to at i z l leads in
+  let is : s.next ≡ at = sym (get_or_read links to n s.known.from e 0 ∙ s.is) ∙ q in
+  let way : IsWay links watched lit to s.front (at ∷ s.rest) = subst (λ k. IsWay links watched lit to s.front (k ∷ s.rest)) is s.way in
+  (moved vars clauses links watched s.front s.rest lit to at new i z l way zn ln d).whole
+
+pub over_has : (vars : ℕ) (xs : List ℕ) (x : ℕ) → All (IsOver vars) xs → has xs x ≡ true → IsOver vars x
+over_has vars [] x a h = absurd (grind (arith, h))
+over_has vars (y ∷ ys) x a h = elim (tested (eqb y x)) [
+    inl same ↦ let e : y ≡ x = grind (arith, same) in subst (IsOver vars) e (a 0 0 (omega arith))
+  | inr other ↦ over_has vars ys x (λ k d lt. a (suc k) d (omega arith)) (grind (arith, h, other)) ]
+
+-- a side of a clause is one of its two watches
+pub side_cases : (w : WatchState) (clause lit : ℕ) → (side_of w clause lit ≡ watch_of w clause) ⊎ (side_of w clause lit ≡ watch_of w clause + 1)
+side_cases w clause lit = elim (tested (eqb (get_or w.watched (watch_of w clause) 0) lit)) [
+    inl same ↦ inl (rw same refl)
+  | inr other ↦ inr (rw other refl) ]
+
+pub side_apart : (w : WatchState) (clause old new : ℕ) → get_or w.watched (side_of w clause old) 0 ≡ old → get_or w.watched (watch_of w clause) 0 ≢ new → get_or w.watched (watch_of w clause + 1) 0 ≢ new → new ≢ old
+side_apart w clause old new is a b q = elim (side_cases w clause old) [
+    inl e ↦ a (ap (λ k. get_or w.watched k 0) (sym e) ∙ is ∙ sym q)
+  | inr e ↦ b (ap (λ k. get_or w.watched k 0) (sym e) ∙ is ∙ sym q) ]

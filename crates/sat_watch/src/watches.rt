@@ -6,6 +6,8 @@ use no_memory::NoMemory;
 use std::alloc::Global;
 use std::marker::Model;
 
+mod propagate;
+
 /// How many variables and clauses there can be together, so that each watch has a place of 32 bits.
 const MOST: u32 = 2_147_483_648;
 
@@ -119,13 +121,25 @@ impl Watches {
         requires apart_second { slice_index self.old.watched (watch_of self.old clause + 1) ≢ new }
         ensures { self.new ≡ record self.old { watched = slice_set self.old.watched (side_of self.old clause old) new } }
     {
-        let first = 2 * (self.clauses.vars() + 1 + clause);
-        let at = if self.watched[first as usize] == old.number() { first } else { first + 1 };
+        let at = self.side_of(clause, old);
         let mut previous = old.number();
         while self.links[previous as usize] != at {
             previous = self.links[previous as usize];
         }
         rethread(&mut self.links, &mut self.watched, previous, at, new.number());
+    }
+
+    /// The watch by which a clause watches a literal.
+    fn side_of(&self, clause: u32, lit: Lit) -> u32
+        requires { clause < length self.now.clauses }
+        ensures value { result ≡ side_of self.now clause lit }
+    {
+        let first = 2 * (self.clauses.vars() + 1 + clause);
+        if self.watched[first as usize] == lit.number() {
+            first
+        } else {
+            first + 1
+        }
     }
 }
 
