@@ -48,7 +48,7 @@ pub rises_few : (from to : ℕ) (levels : List ℕ) → Rises from levels to →
 rises_few from to [] r = omega arith
 rises_few from to (x ∷ xs) r = omega (arith, r.0, r.1, rises_few x to xs r.2)
 
-rises_up : (from to : ℕ) (levels : List ℕ) → Rises from levels to → from ≤ to
+pub rises_up : (from to : ℕ) (levels : List ℕ) → Rises from levels to → from ≤ to
 rises_up from to [] r = omega arith
 rises_up from to (x ∷ xs) r = omega (arith, r.0, rises_up x to xs r.2)
 

@@ -105,7 +105,8 @@ impl Trail {
     /// Whether a literal is true: a look-up.
     pub fn is_true(&self, lit: Lit) -> bool
         requires { IsOver self.now.vars lit }
-        ensures { result ≡ is_true (literals self.now.entries) lit }
+        ensures value { result ≡ is_true (literals self.now.entries) lit }
+        ensures sound { IsSound self.now }
     {
         self.truths[lit.number() as usize]
     }
@@ -132,6 +133,7 @@ impl Trail {
         requires over { IsOver self.old.vars lit }
         requires unset { IsOpen (literals self.old.entries) lit }
         ensures adds { self.new ≡ record self.old { entries = self.old.entries ++ record { lit = lit; level = self.old.level; reason = reason } ∷ [] } }
+        ensures sound { IsSound self.new }
         ensures right { (w : WatchState) → Right w self.old → Right w self.new }
     {
         self.entries.push_reserved(Entry {

@@ -28,3 +28,11 @@ returns-clause-right c = λ w r.
   let more = right_more w c.self.inside.vars c.self.inside.level c.self.inside.passed c.self.inside.level c.self.inside.entries.items
     (record { lit = c.args.lit; level = c.self.inside.level; reason = c.args.reason }) (subst (Right w) (sym c.self.view_is) r) refl c.self.invariant.0.sound.within (inl refl) in
   rw c.push_reserved.ensures.items more
+
+pub returns-clause-sound : goal.returns-clause-sound
+returns-clause-sound c =
+  let over : IsOver c.self.inside.vars c.args.lit = subst (λ t. IsOver t.vars c.args.lit) (sym c.self.view_is) c.requires.over in
+  let unset : IsOpen (literals c.self.inside.entries.items) c.args.lit = subst (λ t. IsOpen (literals t.entries) c.args.lit) (sym c.self.view_is) c.requires.unset in
+  let more = marked_more c.self.inside.vars c.self.inside.level c.self.inside.passed c.self.inside.level c.self.inside.entries.items c.self.inside.truths.items
+    (record { lit = c.args.lit; level = c.self.inside.level; reason = c.args.reason }) c.self.invariant.0 over unset refl (omega arith) (omega arith) in
+  rw c.push_reserved.ensures.items more.sound
