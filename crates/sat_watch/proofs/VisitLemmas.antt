@@ -1,6 +1,7 @@
 -- A walk over the watches of a false literal: where it begins, how a watch stays or moves, and what holds at its end.
-use Rattle.std.proofs.Common.{◌≡◌, ◌≢◌, ◌↔◌, ℕ, zero, suc, ◌+◌, ◌-◌, ◌*◌, ◌/◌, ◌%◌, ◌<◌, ◌≤◌, Bool, true, false, cond, eqb, ltb, not, ◌||◌, List, [], ◌∷◌, ◌++◌, length, map, take, drop, get_or, set, refl, sym, ap, ◌∙◌, subst, inl, inr, ◌⊎◌, All, Some, arith, rules, get_or-set_same, get_or-set_other, length-append}
+use Rattle.std.proofs.Common.{◌≡◌, ◌≢◌, ◌↔◌, ℕ, zero, suc, ◌+◌, ◌-◌, ◌*◌, ◌/◌, ◌%◌, ◌<◌, ◌≤◌, Bool, true, false, cond, eqb, ltb, not, ◌||◌, List, [], ◌∷◌, ◌++◌, length, map, take, drop, get_or, set, refl, sym, ap, ◌∙◌, subst, inl, inr, ◌⊎◌, All, Option, Some, None, arith, rules, get_or-set_same, get_or-set_other, length-append}
 use Rattle.std.proofs.lemmas.List.{length-map, map-append, append_assoc, append-nil, take_more, get_or_read, set_past}
+use Rattle.std.specs.Prelude.{IfNone}
 use Rattle.cnf_core.specs.Clauses.{Clauses}
 use Rattle.cnf_core.specs.Literal.{negated, IsOver}
 use Rattle.sat_watch.specs.declared.trail.Entry.{Entry}
@@ -64,3 +65,50 @@ pub rises_below : (from to : ℕ) (ls : List ℕ) (j : ℕ) → Rises from ls to
 rises_below from to [] j r l = absurd (omega arith)
 rises_below from to (x ∷ xs) zero r l = rises_up x to xs r.2
 rises_below from to (x ∷ xs) (suc j) r l = rises_below x to xs j r.2 (omega arith)
+
+-- the literal of the twin is one of the clause
+pub other_of : (cnf : Clauses) (watched : List ℕ) (at : ℕ) → IsSet (state cnf watched) (twin at) → CanWatch cnf.vars (clause_of (state cnf watched) at)
+    → (has (clause_of (state cnf watched) at) (get_or watched (twin at) 0) ≡ true) × IsOver cnf.vars (get_or watched (twin at) 0)
+other_of cnf watched at s c =
+  let same : clause_of (state cnf watched) (twin at) ≡ clause_of (state cnf watched) at = ap (λ h. get_or cnf.clauses (h - (cnf.vars + 1)) []) (negated-half at) in
+  let inside : has (clause_of (state cnf watched) at) (get_or watched (twin at) 0) ≡ true = ap (λ xs. has xs (get_or watched (twin at) 0)) (sym same) ∙ s.inside in
+  (inside, over_has cnf.vars (clause_of (state cnf watched) at) (get_or watched (twin at) 0) c.over inside)
+
+pub if_none : {P : Type 0} (o : Option ℕ) → ((x : ℕ) → o ≡ Some x → ⊥) → IfNone o P → P
+if_none None n p = p
+if_none (Some x) n p = absurd (n x refl)
+
+-- one forced entry more
+pub grown_one : (clauses : List (List ℕ)) (old new : TrailState) (lit clause : ℕ) → clause < length clauses → Forces (literals old.entries) (get_or clauses clause []) lit
+    → new ≡ record old { entries = old.entries ++ record { lit = lit; level = old.level; reason = Some clause } ∷ [] }
+    → Grows clauses old new × (is_true (literals new.entries) lit ≡ true)
+grown_one clauses old new lit clause l f e =
+  let lits : literals new.entries ≡ literals old.entries ++ lit ∷ [] =
+    ap (λ (t : TrailState). literals t.entries) e ∙ map-append (λ (x : Entry). x.lit) old.entries (record { lit = lit; level = old.level; reason = Some clause } ∷ []) in
+  (record {
+     added = record { lit = lit; level = old.level; reason = Some clause } ∷ [];
+     is = ap (λ (t : TrailState). t.entries) e;
+     forced = (record { clause = clause; reason = refl; known = l; forces = f; present = refl }, tt);
+     level = ap (λ (t : TrailState). t.level) e;
+     vars = ap (λ (t : TrailState). t.vars) e },
+   ap (λ xs. is_true xs lit) lits ∙ is_true-append (literals old.entries) (lit ∷ []) lit ∙ grind arith)
+
+pub grown_none : (clauses : List (List ℕ)) (t : TrailState) → Grows clauses t t
+grown_none clauses t = record { added = []; is = sym (append-nil t.entries); forced = tt; level = refl; vars = refl }
+
+forced-append : (clauses : List (List ℕ)) (trues : List ℕ) (level : ℕ) (xs ys : List Entry) → AreForced clauses trues level xs → AreForced clauses (trues ++ literals xs) level ys → AreForced clauses trues level (xs ++ ys)
+forced-append clauses trues level [] ys f g = subst (λ ts. AreForced clauses ts level ys) (append-nil trues) g
+forced-append clauses trues level (x ∷ xs) ys f g =
+  (f.0, forced-append clauses (trues ++ x.lit ∷ []) level xs ys f.1 (subst (λ ts. AreForced clauses ts level ys) (sym (append_assoc trues (x.lit ∷ []) (literals xs))) g))
+
+-- growing goes on
+pub grown_more : (clauses : List (List ℕ)) (one two three : TrailState) → Grows clauses one two → Grows clauses two three → Grows clauses one three
+grown_more clauses one two three g h =
+  let lits : literals two.entries ≡ literals one.entries ++ literals g.added = ap literals g.is ∙ map-append (λ (x : Entry). x.lit) one.entries g.added in
+  record {
+    added = g.added ++ h.added;
+    is = h.is ∙ ap (λ xs. xs ++ h.added) g.is ∙ append_assoc one.entries g.added h.added;
+    forced = forced-append clauses (literals one.entries) one.level g.added h.added g.forced
+      (subst (λ ts. AreForced clauses ts one.level h.added) lits (subst (λ l. AreForced clauses (literals two.entries) l h.added) g.level h.forced));
+    level = h.level ∙ g.level;
+    vars = h.vars ∙ g.vars }
