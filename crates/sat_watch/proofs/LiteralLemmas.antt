@@ -13,6 +13,12 @@ pub tested : (b : Bool) → (b ≡ true) ⊎ (b ≡ false)
 tested true = inl refl
 tested false = inr refl
 
+pub equal : (a b : ℕ) → eqb a b ≡ true → a ≡ b
+equal a b h = grind (arith, h)
+
+pub unequal : (a b : ℕ) → eqb a b ≡ false → a ≢ b
+unequal a b h q = grind (arith, h, q)
+
 pub even_negated : (n : ℕ) → eqb (n % 2) 0 ≡ true → negated n ≡ n + 1
 even_negated n h = rw h refl
 

@@ -89,7 +89,7 @@ impl Watches {
         ensures clauses { self.new.clauses ≡ self.old.clauses }
         ensures right { Right self.new trail.new }
     {
-        while trail.passed() < trail.entries().len() {
+        'entries: while trail.passed() < trail.entries().len() {
             let lit = trail.entries()[trail.passed()].lit;
             if let Some(clause) = self.visit(lit.negated(), trail) {
                 return Some(clause);
@@ -115,7 +115,7 @@ impl Watches {
         ensures conflict { IfSome result (λ clause. IsFalse (literals trail.new.entries) (slice_index_or self.new.clauses clause [])) }
     {
         let mut previous = falsified.number();
-        while self.links[previous as usize] != 0 {
+        'list: while self.links[previous as usize] != 0 {
             let at = self.links[previous as usize];
             match look(&self.clauses, &self.watched, at, trail) {
                 Finding::Stays => previous = at,

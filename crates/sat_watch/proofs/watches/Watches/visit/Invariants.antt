@@ -1,0 +1,9 @@
+use Rattle.std.proofs.Common.{length}
+use Rattle.sat_watch.specs.Visit.{read, IsVisit}
+use Rattle.sat_watch.proofs.watches.Watches.visit.Given as goal
+
+abbrev pub invariant-list : goal.invariant-list
+invariant-list l = IsVisit l.self-inside.clauses l.self-inside.links.items l.self-inside.watched.items l.fn.trail l.trail l.fn.falsified l.previous
+
+abbrev pub decreases-list : goal.decreases-list
+decreases-list l = length (read l.self-inside.links.items (length l.self-inside.links.items) l.previous)
