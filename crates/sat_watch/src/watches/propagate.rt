@@ -104,6 +104,7 @@ impl Watches {
         requires vars { trail.old.vars ≡ self.old.vars }
         requires right { Right self.old trail.old }
         requires within { trail.old.passed < length trail.old.entries }
+        requires sound { IsSound trail.old }
         requires next { slice_index (literals trail.old.entries) trail.old.passed ≡ negated falsified }
         ensures vars { self.new.vars ≡ self.old.vars }
         ensures clauses { self.new.clauses ≡ self.old.clauses }
