@@ -412,3 +412,7 @@ quiet_clause w t clause r s all l =
       let count : length (literals t.entries) ≡ length t.entries = length-map t.entries (λ (x : Entry). x.lit) in
       let b : IsTrueBy (literals t.entries) (levels t.entries) (get_or w.watched (twin k) 0) (get_or (levels t.entries) p.0 0) = r.guarded k known p.0 (omega (arith, p.1)) p.2 in
       ap (is_true (literals t.entries)) (sym b.is) ∙ place_true (literals t.entries) b.place b.within
+
+-- how many entries were gone through is no part of growing
+pub grown_passed : (clauses : List (List ℕ)) (one two : TrailState) (passed : ℕ) → Grows clauses one two → Grows clauses one (record two { passed = passed })
+grown_passed clauses one two passed g = record { added = g.added; is = g.is; forced = g.forced; level = g.level; vars = g.vars }
