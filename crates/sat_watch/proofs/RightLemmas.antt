@@ -1,13 +1,14 @@
 -- What stays right of the watches where the trail grows or goes back.
 use Rattle.std.proofs.Common.{◌≡◌, ◌≢◌, ℕ, zero, suc, ◌+◌, ◌-◌, ◌*◌, ◌/◌, ◌<◌, ◌≤◌, Bool, true, false, cond, eqb, ltb, not, List, [], ◌∷◌, ◌++◌, length, map, take, drop, get_or, set, refl, sym, ap, ◌∙◌, subst, inl, inr, ◌⊎◌, All, arith, rules, get_or-set_same, get_or-set_other, length-append}
 use Rattle.std.specs.Prelude.{nat_le, min}
-use Rattle.std.proofs.lemmas.List.{length-map, map-append, length_push, get_or_append_left, get_or_push, get_or-append_right, append-nil}
+use Rattle.std.proofs.lemmas.List.{length-map, map-append, length-set, length_push, get_or_append_left, get_or_push, get_or-append_right, append-nil}
 use Rattle.cnf_core.specs.Literal.{negated}
 use Rattle.sat_watch.specs.declared.trail.Entry.{Entry}
-use Rattle.sat_watch.specs.Literals.{is_true}
+use Rattle.sat_watch.specs.Literals.{is_true, has}
 use Rattle.sat_watch.specs.Trail.{TrailState, literals, levels, up_to, Rises, IsSound}
-use Rattle.sat_watch.specs.Watching.{WatchState, twin, IsWatch, IsTrueBy, IsGuarded, Right}
-use Rattle.sat_watch.proofs.LiteralLemmas.{tested}
+use Rattle.sat_watch.specs.Watching.{WatchState, twin, clause_of, IsWatch, IsSet, IsTrueBy, IsGuarded, IsPending, CanPair, Right, RightBut}
+use Rattle.sat_watch.proofs.LiteralLemmas.{tested, equal, unequal, halves, negated-half}
+use Rattle.sat_watch.proofs.WatchLemmas.{twin_even, twin_odd}
 use Rattle.sat_watch.proofs.TrailLemmas.{up_to_none}
 
 -- what was true by some entry is so with more entries
@@ -153,3 +154,86 @@ right_back w vars level passed level' passed' entries entries' r rises l is p =
               let e : get_or (levels entries) t.place 0 ≡ get_or (levels rest) (t.place - length (levels front)) 0 =
                 ap (λ ls. get_or ls t.place 0) lvls ∙ get_or-append_right (levels front) (levels rest) (length (levels front)) t.place 0 refl (omega arith) in
               absurd (let high : level' < get_or (levels rest) (t.place - length (levels front)) 0 = above (t.place - length (levels front)) (omega (arith, t.within)) in omega (arith, t.below)) ] }
+
+-- no clause watches anything
+pub right_none : (vars : ℕ) (watched : List ℕ) (t : TrailState) → IsPending t → Right (record { vars = vars; clauses = []; watched = watched }) t
+right_none vars watched t p = record {
+  set = λ k known. absurd (omega (arith, known));
+  pending = p;
+  guarded = λ k known. absurd (omega (arith, known)) }
+
+get_two : (watched : List ℕ) (s : ℕ) → get_or (watched ++ 0 ∷ 0 ∷ []) s 0 ≡ get_or watched s 0
+get_two [] zero = refl
+get_two [] (suc zero) = refl
+get_two [] (suc (suc s)) = refl
+get_two (x ∷ xs) zero = refl
+get_two (x ∷ xs) (suc s) = get_two xs s
+
+-- a clause more, which watches nothing
+pub right_added : (w : WatchState) (t : TrailState) (lits : List ℕ) → Right w t
+    → RightBut (length w.clauses) (record w { clauses = w.clauses ++ lits ∷ []; watched = w.watched ++ 0 ∷ 0 ∷ [] }) t
+right_added w t lits r = record {
+  set = λ k known d.
+    let old : IsWatch w k = was w k lits known d in
+    let s : IsSet w k = r.set k old in
+    record {
+      inside = ap (has (clause_of (record w { clauses = w.clauses ++ lits ∷ []; watched = w.watched ++ 0 ∷ 0 ∷ [] }) k)) (get_two w.watched k)
+        ∙ ap (λ c. has c (get_or w.watched k 0)) (get_or_append_left w.clauses (lits ∷ []) [] (k / 2 - (w.vars + 1)) (omega (arith, old))) ∙ s.inside;
+      apart = λ q. s.apart (sym (get_two w.watched k) ∙ q ∙ get_two w.watched (twin k)) };
+  pending = r.pending;
+  guarded = λ k known d.
+    subst (λ x. IsGuarded (literals t.entries) (levels t.entries) t.passed x (get_or (w.watched ++ 0 ∷ 0 ∷ []) (twin k) 0)) (sym (get_two w.watched k))
+      (subst (λ x. IsGuarded (literals t.entries) (levels t.entries) t.passed (get_or w.watched k 0) x) (sym (get_two w.watched (twin k))) (r.guarded k (was w k lits known d))) }
+  where
+    was : (w : WatchState) (k : ℕ) (lits : List ℕ) → (2 * (w.vars + 1) ≤ k) × (k < 2 * (w.vars + 1 + length (w.clauses ++ lits ∷ []))) → k / 2 ≢ w.vars + 1 + length w.clauses → IsWatch w k
+    was w k lits known d = let count : length (w.clauses ++ lits ∷ []) ≡ length w.clauses + 1 = length_push w.clauses lits in (known.0, omega (arith, known.1))
+
+-- it watches two literals that may be watched together
+pub right_watched : (w : WatchState) (t : TrailState) (clause first second : ℕ) (watched' : List ℕ) → RightBut clause w t → CanPair t first second
+    → watched' ≡ set (set w.watched (2 * (w.vars + 1 + clause)) first) (2 * (w.vars + 1 + clause) + 1) second → 2 * (w.vars + 1 + clause) + 1 < length w.watched
+    → IsSet (record w { watched = watched' }) (2 * (w.vars + 1 + clause)) → IsSet (record w { watched = watched' }) (2 * (w.vars + 1 + clause) + 1)
+    → Right (record w { watched = watched' }) t
+right_watched w t clause first second watched' r pair e l s0 s1 = record {
+  set = λ k known. elim (tested (eqb (k / 2) (w.vars + 1 + clause))) [
+      inl same ↦ elim (sides k (w.vars + 1 + clause) (equal (k / 2) (w.vars + 1 + clause) same)) [
+          inl q ↦ subst (IsSet (record w { watched = watched' })) (sym q) s0
+        | inr q ↦ subst (IsSet (record w { watched = watched' })) (sym q) s1 ]
+    | inr other ↦
+      let d : k / 2 ≢ w.vars + 1 + clause = unequal (k / 2) (w.vars + 1 + clause) other in
+      let s : IsSet w k = r.set k known d in
+      record {
+        inside = ap (has (clause_of w k)) (apart_get k d) ∙ s.inside;
+        apart = λ q. s.apart (sym (apart_get k d) ∙ q ∙ apart_get (twin k) (λ p. d (sym (negated-half k) ∙ p))) } ];
+  pending = r.pending;
+  guarded = λ k known. elim (tested (eqb (k / 2) (w.vars + 1 + clause))) [
+      inl same ↦ elim (sides k (w.vars + 1 + clause) (equal (k / 2) (w.vars + 1 + clause) same)) [
+          inl q ↦
+            let here : get_or watched' k 0 ≡ first = ap (λ j. get_or watched' j 0) q ∙ get_first in
+            let there : get_or watched' (twin k) 0 ≡ second = ap (λ j. get_or watched' j 0) (ap twin q ∙ twin_even (w.vars + 1 + clause)) ∙ get_second in
+            subst (λ x. IsGuarded (literals t.entries) (levels t.entries) t.passed x (get_or watched' (twin k) 0)) (sym here)
+              (subst (λ x. IsGuarded (literals t.entries) (levels t.entries) t.passed first x) (sym there) pair.one)
+        | inr q ↦
+            let here : get_or watched' k 0 ≡ second = ap (λ j. get_or watched' j 0) q ∙ get_second in
+            let there : get_or watched' (twin k) 0 ≡ first = ap (λ j. get_or watched' j 0) (ap twin q ∙ twin_odd (w.vars + 1 + clause)) ∙ get_first in
+            subst (λ x. IsGuarded (literals t.entries) (levels t.entries) t.passed x (get_or watched' (twin k) 0)) (sym here)
+              (subst (λ x. IsGuarded (literals t.entries) (levels t.entries) t.passed second x) (sym there) pair.other) ]
+    | inr other ↦
+      let d : k / 2 ≢ w.vars + 1 + clause = unequal (k / 2) (w.vars + 1 + clause) other in
+      subst (λ x. IsGuarded (literals t.entries) (levels t.entries) t.passed x (get_or watched' (twin k) 0)) (sym (apart_get k d))
+        (subst (λ x. IsGuarded (literals t.entries) (levels t.entries) t.passed (get_or w.watched k 0) x) (sym (apart_get (twin k) (λ p. d (sym (negated-half k) ∙ p)))) (r.guarded k known d)) ] }
+  where
+    sides : (k n : ℕ) → k / 2 ≡ n → (k ≡ 2 * n) ⊎ (k ≡ 2 * n + 1)
+    sides k n e = elim (halves k) [ inl h ↦ inl (omega (arith, h.0)) | inr h ↦ inr (omega (arith, h.0)) ]
+    apart_get : (k : ℕ) → k / 2 ≢ w.vars + 1 + clause → get_or watched' k 0 ≡ get_or w.watched k 0
+    apart_get k d =
+      let one : k ≢ 2 * (w.vars + 1 + clause) + 1 = λ q. d (omega (arith, q)) in
+      let two : k ≢ 2 * (w.vars + 1 + clause) = λ q. d (omega (arith, q)) in
+      ap (λ ws. get_or ws k 0) e ∙ get_or-set_other (set w.watched (2 * (w.vars + 1 + clause)) first) (2 * (w.vars + 1 + clause) + 1) k second 0 one
+        ∙ get_or-set_other w.watched (2 * (w.vars + 1 + clause)) k first 0 two
+    get_first : get_or watched' (2 * (w.vars + 1 + clause)) 0 ≡ first
+    get_first = ap (λ ws. get_or ws (2 * (w.vars + 1 + clause)) 0) e
+      ∙ get_or-set_other (set w.watched (2 * (w.vars + 1 + clause)) first) (2 * (w.vars + 1 + clause) + 1) (2 * (w.vars + 1 + clause)) second 0 (λ q. omega arith)
+      ∙ get_or-set_same w.watched (2 * (w.vars + 1 + clause)) first 0 (omega arith)
+    get_second : get_or watched' (2 * (w.vars + 1 + clause) + 1) 0 ≡ second
+    get_second = ap (λ ws. get_or ws (2 * (w.vars + 1 + clause) + 1) 0) e
+      ∙ get_or-set_same (set w.watched (2 * (w.vars + 1 + clause)) first) (2 * (w.vars + 1 + clause) + 1) second 0 (rw length-set l)

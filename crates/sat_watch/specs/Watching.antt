@@ -46,10 +46,26 @@ pub record IsTrueBy (lits levels : List ℕ) (lit level : ℕ) : Type 0 where
 abbrev pub IsGuarded : List ℕ → List ℕ → ℕ → ℕ → ℕ → Type 0
 IsGuarded lits levels passed one other = (i : ℕ) → i < passed → slice_index lits i ≡ negated one → IsTrueBy lits levels other (slice_index levels i)
 
+-- The entries that were not gone through are of the present level.
+abbrev pub IsPending : TrailState → Type 0
+IsPending t = (i : ℕ) → t.passed ≤ i → i < length t.entries → slice_index (levels t.entries) i ≡ t.level
+
 -- Every clause watches two of its literals, the entries not gone through are of the present level, and
 -- wherever a watched literal is false and has been gone through, the other is true at a level that is not above.
 pub record Right (w : WatchState) (t : TrailState) : Type 0 where
   pub set : (watch : ℕ) → IsWatch w watch → IsSet w watch
-  pub pending : (i : ℕ) → t.passed ≤ i → i < length t.entries → slice_index (levels t.entries) i ≡ t.level
+  pub pending : IsPending t
   pub guarded : (watch : ℕ) → IsWatch w watch
       → IsGuarded (literals t.entries) (levels t.entries) t.passed (slice_index w.watched watch) (slice_index w.watched (twin watch))
+
+-- The same, but for one clause that watches nothing yet.
+pub record RightBut (clause : ℕ) (w : WatchState) (t : TrailState) : Type 0 where
+  pub set : (watch : ℕ) → IsWatch w watch → watch / 2 ≢ w.vars + 1 + clause → IsSet w watch
+  pub pending : IsPending t
+  pub guarded : (watch : ℕ) → IsWatch w watch → watch / 2 ≢ w.vars + 1 + clause
+      → IsGuarded (literals t.entries) (levels t.entries) t.passed (slice_index w.watched watch) (slice_index w.watched (twin watch))
+
+-- The two literals may be watched together: where one was found false, the other is true at a level that is not above.
+pub record CanPair (t : TrailState) (first second : ℕ) : Type 0 where
+  pub one : IsGuarded (literals t.entries) (levels t.entries) t.passed first second
+  pub other : IsGuarded (literals t.entries) (levels t.entries) t.passed second first

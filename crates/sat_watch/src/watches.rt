@@ -37,13 +37,15 @@ impl Model for Watches {
 impl Watches {
     ghost use Rattle.sat_watch.specs.Literals.{has};
     ghost use Rattle.sat_watch.specs.Threads.{CanWatch};
-    ghost use Rattle.sat_watch.specs.Watching.{WatchState, watch_of, side_of, IsSet};
+    ghost use Rattle.sat_watch.specs.Trail.{TrailState};
+    ghost use Rattle.sat_watch.specs.Watching.{WatchState, watch_of, side_of, IsSet, IsPending, Right, RightBut, CanPair};
 
     /// No clauses, over the variables 1 to `vars`.
     pub fn new(alloc: Global, vars: u32) -> Result<Watches, NoMemory>
         requires { vars < 2 ^ 31 }
         ensures vars { IfOk result (λ w. w.vars ≡ vars) }
         ensures clauses { IfOk result (λ w. w.clauses ≡ []) }
+        ensures right { IfOk result (λ w. (t : TrailState) → IsPending t → Right w t) }
     {
         let literals = 2 * (vars as usize + 1);
         Ok(Watches {
@@ -77,6 +79,7 @@ impl Watches {
         requires { CanWatch self.old.vars lits.now }
         ensures number { IfOk result (λ clause. clause ≡ length self.old.clauses) }
         ensures ok { OnOk result (self.new ≡ record self.old { clauses = self.old.clauses ++ lits.now ∷ []; watched = self.old.watched ++ 0 ∷ 0 ∷ [] }) }
+        ensures right { OnOk result ((t : TrailState) → Right self.old t → RightBut (length self.old.clauses) self.new t) }
         ensures err { OnErr result (self.new ≡ self.old) }
     {
         let clause = self.clauses.clauses();
@@ -102,6 +105,8 @@ impl Watches {
             self.new ≡ record self.old { watched = slice_set (slice_set self.old.watched (watch_of self.old clause) (slice_index lits 0)) (watch_of self.old clause + 1) (slice_index lits 1) } }
         ensures first { IsSet self.new (watch_of self.new clause) }
         ensures second { IsSet self.new (watch_of self.new clause + 1) }
+        ensures right { let lits = slice_index_or self.old.clauses clause [] in
+            (t : TrailState) → RightBut clause self.old t → CanPair t (slice_index lits 0) (slice_index lits 1) → Right self.new t }
     {
         let lits = self.clauses.clause(clause);
         let first = lits[0].number();

@@ -1,6 +1,9 @@
-use Rattle.std.proofs.Common.{◌≡◌, ◌<◌, ◌+◌, ◌^◌, List, ℕ, length, ap, subst, sym, refl, ◌∙◌, arith, ◌++◌, ◌∷◌, []}
+use Rattle.std.proofs.Common.{◌≡◌, ◌<◌, ◌+◌, ◌^◌, List, ℕ, length, ap, subst, sym, refl, ◌∙◌, arith, ◌++◌, ◌∷◌, [], append_assoc}
 use Rattle.cnf_core.specs.Clauses.{Clauses}
 use Rattle.sat_watch.specs.Threads.{CanWatch}
+use Rattle.sat_watch.specs.Visit.{state}
+use Rattle.sat_watch.specs.Watching.{Right, RightBut}
+use Rattle.sat_watch.proofs.RightLemmas.{right_added}
 use Rattle.sat_watch.proofs.WatchLemmas.{watches_more}
 use Rattle.sat_watch.proofs.watches.Watches.add.Goals as goal
 
@@ -15,3 +18,12 @@ invariant_of-self-2 c =
   rw pushed (watches_more c.self.inside.clauses.vars c.self.inside.clauses.clauses (c.self.inside.clauses.clauses ++ c.args.lits.now ∷ []) c.self.inside.links.items c.self.inside.watched.items
     c.push_reserved-2.new.self.items c.push_reserved-4.new.self.items c.args.lits.now c.self.invariant can
     (omega (arith, c.clauses-clause.ensures, c.vars.ensures.value, c.if-vars-clause-ge-MOST.false)) refl links watched)
+
+pub returns-clause-right : goal.returns-clause-right
+returns-clause-right c = λ t r.
+  let pushed : c.push_clause.new.self ≡ record c.self.inside.clauses { clauses = c.self.inside.clauses.clauses ++ c.args.lits.now ∷ [] } = c.in_ok-push_clause.ensures.ok in
+  let watched : c.push_reserved-4.new.self.items ≡ c.self.inside.watched.items ++ 0 ∷ 0 ∷ [] =
+    c.push_reserved-4.ensures.items ∙ ap (λ xs. xs ++ 0 ∷ []) c.push_reserved-3.ensures.items ∙ ap (λ xs. (xs ++ 0 ∷ []) ++ 0 ∷ []) c.reserve-2.ensures.items ∙ append_assoc c.self.inside.watched.items (0 ∷ []) (0 ∷ []) in
+  let added = right_added (state c.self.inside.clauses c.self.inside.watched.items) t c.args.lits.now (subst (λ w. Right w t) (sym c.self.view_is) r) in
+  let here : RightBut (length c.self.inside.clauses.clauses) (state c.push_clause.new.self c.push_reserved-4.new.self.items) t = rw (pushed, watched) added in
+  subst (λ w. RightBut (length w.clauses) (state c.push_clause.new.self c.push_reserved-4.new.self.items) t) c.self.view_is here
