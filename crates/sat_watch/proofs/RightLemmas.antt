@@ -162,7 +162,7 @@ right_none vars watched t p = record {
   pending = p;
   guarded = λ k known. absurd (omega (arith, known)) }
 
-get_two : (watched : List ℕ) (s : ℕ) → get_or (watched ++ 0 ∷ 0 ∷ []) s 0 ≡ get_or watched s 0
+pub get_two : (watched : List ℕ) (s : ℕ) → get_or (watched ++ 0 ∷ 0 ∷ []) s 0 ≡ get_or watched s 0
 get_two [] zero = refl
 get_two [] (suc zero) = refl
 get_two [] (suc (suc s)) = refl

@@ -15,6 +15,10 @@ pub record WatchState : Type 0 where
 abbrev pub watch_of : WatchState → ℕ → ℕ
 watch_of w clause = 2 * (w.vars + 1 + clause)
 
+-- The clause is in no list.
+abbrev pub IsFree : WatchState → ℕ → Type 0
+IsFree w clause = (slice_index w.watched (watch_of w clause) ≡ 0) × (slice_index w.watched (watch_of w clause + 1) ≡ 0)
+
 -- the other watch of the same clause
 abbrev pub twin : ℕ → ℕ
 twin watch = negated watch

@@ -6,3 +6,6 @@ mod watches;
 
 pub use trail::{Entry, Trail};
 pub use watches::Watches;
+
+#[cfg(test)]
+mod tests;

@@ -38,7 +38,7 @@ impl Watches {
     ghost use Rattle.sat_watch.specs.Literals.{has};
     ghost use Rattle.sat_watch.specs.Threads.{CanWatch};
     ghost use Rattle.sat_watch.specs.Trail.{TrailState};
-    ghost use Rattle.sat_watch.specs.Watching.{WatchState, watch_of, side_of, IsSet, IsPending, Right, RightBut, CanPair};
+    ghost use Rattle.sat_watch.specs.Watching.{WatchState, watch_of, side_of, IsFree, IsSet, IsPending, Right, RightBut, CanPair};
 
     /// No clauses, over the variables 1 to `vars`.
     pub fn new(alloc: Global, vars: u32) -> Result<Watches, NoMemory>
@@ -79,6 +79,7 @@ impl Watches {
         requires { CanWatch self.old.vars lits.now }
         ensures number { IfOk result (λ clause. clause ≡ length self.old.clauses) }
         ensures ok { OnOk result (self.new ≡ record self.old { clauses = self.old.clauses ++ lits.now ∷ []; watched = self.old.watched ++ 0 ∷ 0 ∷ [] }) }
+        ensures free { IfOk result (IsFree self.new) }
         ensures right { OnOk result ((t : TrailState) → Right self.old t → RightBut (length self.old.clauses) self.new t) }
         ensures err { OnErr result (self.new ≡ self.old) }
     {
@@ -100,7 +101,7 @@ impl Watches {
     /// time.
     pub fn watch(&mut self, clause: u32)
         requires added { clause < length self.old.clauses }
-        requires free { (slice_index self.old.watched (watch_of self.old clause) ≡ 0) × (slice_index self.old.watched (watch_of self.old clause + 1) ≡ 0) }
+        requires free { IsFree self.old clause }
         ensures watched { let lits = slice_index_or self.old.clauses clause [] in
             self.new ≡ record self.old { watched = slice_set (slice_set self.old.watched (watch_of self.old clause) (slice_index lits 0)) (watch_of self.old clause + 1) (slice_index lits 1) } }
         ensures first { IsSet self.new (watch_of self.new clause) }
