@@ -1,5 +1,5 @@
 -- What clauses do under the true literals, and how propagation adds to a trail.
-use Rattle.std.specs.Prelude.{◌≡◌, ◌≢◌, ℕ, ◌<◌, Option, Some, List, [], ◌∷◌, ◌++◌, ⊤, true, length, slice_index_or}
+use Rattle.std.specs.Prelude.{◌≡◌, ◌≢◌, ℕ, ◌<◌, Some, List, [], ◌∷◌, ◌++◌, ⊤, true, length, slice_index_or}
 use Rattle.cnf_core.specs.Literal.{negated}
 use Rattle.sat_watch.specs.declared.trail.Entry.{Entry}
 use Rattle.sat_watch.specs.Literals.{is_true, has, IsOpen}

@@ -1,5 +1,5 @@
 -- The trail: the literals that were made true, in order, with the level of each and the clause that forced it.
-use Rattle.std.specs.Prelude.{◌≡◌, ℕ, ◌+◌, ◌*◌, ◌<◌, ◌≤◌, ◌^◌, Bool, Option, List, [], ◌∷◌, All, length, map, filter, nat_le}
+use Rattle.std.specs.Prelude.{◌≡◌, ℕ, ◌+◌, ◌*◌, ◌<◌, ◌≤◌, ◌^◌, Bool, List, [], ◌∷◌, All, length, map, filter, nat_le}
 use Rattle.cnf_core.specs.Literal.{IsOver}
 use Rattle.sat_watch.specs.declared.trail.Entry.{Entry}
 use Rattle.sat_watch.specs.Literals.{AreApart, AreMarks}

@@ -1,5 +1,5 @@
 -- A walk over the watches of a literal that became false.
-use Rattle.std.specs.Prelude.{◌≡◌, ◌≢◌, ℕ, ◌+◌, ◌-◌, ◌*◌, ◌/◌, ◌<◌, ◌==◌, zero, suc, List, [], ◌∷◌, ◌++◌, true, false, length, slice_index, slice_index_or, if◌then◌else◌}
+use Rattle.std.specs.Prelude.{◌≡◌, ◌≢◌, ℕ, ◌<◌, ◌==◌, zero, suc, List, [], ◌∷◌, ◌++◌, true, false, length, slice_index, slice_index_or, if◌then◌else◌}
 use Rattle.cnf_core.specs.Clauses.{Clauses}
 use Rattle.cnf_core.specs.Literal.{negated}
 use Rattle.sat_watch.specs.Literals.{is_true, has}

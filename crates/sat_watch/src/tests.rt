@@ -30,7 +30,11 @@ fn chain(watches: &mut Watches, trail: &Trail) -> Result<(), NoMemory>
     ensures vars { OnOk result (watches.new.vars ≡ 10000) }
 {
     for var in 1..10_000 {
-        insert(watches, trail, &[Lit::negative(var), Lit::positive(var + 1)])?;
+        insert(
+            watches,
+            trail,
+            &[Lit::negative(var), Lit::positive(var + 1)],
+        )?;
     }
     Ok(())
 }
@@ -41,7 +45,11 @@ fn a_clause_becomes_unit(rt: HostRuntime) -> Result<(), Fail> {
     let mut watches = Watches::new(rt.alloc(), 3)?;
     let mut trail = Trail::new(rt.alloc(), 3)?;
     insert(&mut watches, &trail, &[Lit::positive(1), Lit::positive(2)])?;
-    insert(&mut watches, &trail, &[Lit::negative(1), Lit::positive(2), Lit::positive(3)])?;
+    insert(
+        &mut watches,
+        &trail,
+        &[Lit::negative(1), Lit::positive(2), Lit::positive(3)],
+    )?;
     trail.set(Lit::positive(1), None);
     trail.set(Lit::negative(2), None);
     assert_eq!(rt; watches.propagate(&mut trail), None);
@@ -55,7 +63,11 @@ fn a_clause_becomes_false(rt: HostRuntime) -> Result<(), Fail> {
     let mut watches = Watches::new(rt.alloc(), 3)?;
     let mut trail = Trail::new(rt.alloc(), 3)?;
     insert(&mut watches, &trail, &[Lit::positive(1), Lit::positive(2)])?;
-    let second = insert(&mut watches, &trail, &[Lit::negative(1), Lit::positive(2), Lit::positive(3)])?;
+    let second = insert(
+        &mut watches,
+        &trail,
+        &[Lit::negative(1), Lit::positive(2), Lit::positive(3)],
+    )?;
     trail.set(Lit::positive(1), None);
     trail.set(Lit::negative(2), None);
     trail.set(Lit::negative(3), None);

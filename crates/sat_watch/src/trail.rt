@@ -90,7 +90,8 @@ impl Trail {
 
     /// The value of a variable: a look-up. None exactly where it has none.
     pub fn value(&self, var: u32) -> Option<bool>
-        requires { IsOver self.now.vars (2 * var) }
+        requires from_one { 0 < var }
+        requires within { var ≤ self.now.vars }
         ensures { result ≡ value_of (literals self.now.entries) var }
     {
         if self.truths[2 * var as usize] {

@@ -132,7 +132,13 @@ impl Watches {
         while self.links[previous as usize] != at {
             previous = self.links[previous as usize];
         }
-        rethread(&mut self.links, &mut self.watched, previous, at, new.number());
+        rethread(
+            &mut self.links,
+            &mut self.watched,
+            previous,
+            at,
+            new.number(),
+        );
     }
 
     /// The watch by which a clause watches a literal.

@@ -7,10 +7,9 @@ ghost use Rattle.sat_watch.specs.Trail.{TrailState, literals, IsSound};
 ghost use Rattle.sat_watch.specs.Watching.{WatchState, twin, clause_of, IsWatch, IsSet, Right};
 ghost use Rattle.sat_watch.specs.Visit.{state, Finds};
 
-use cnf_core::{Cnf, Lit};
-
 use super::{Watches, rethread};
 use crate::trail::Trail;
+use cnf_core::{Cnf, Lit};
 
 /// What becomes of a watch whose literal is false.
 enum Finding {

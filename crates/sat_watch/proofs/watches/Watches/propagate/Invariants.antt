@@ -8,7 +8,8 @@ invariant-entries l = record {
   right : Right l.self l.trail;
   grows : Grows l.self.clauses l.fn.trail l.trail;
   vars : l.self.vars ≡ l.fn.self.vars;
-  clauses : l.self.clauses ≡ l.fn.self.clauses }
+  clauses : l.self.clauses ≡ l.fn.self.clauses;
+}
 
 abbrev pub decreases-entries : goal.decreases-entries
 decreases-entries l = l.trail.vars - l.trail.passed
