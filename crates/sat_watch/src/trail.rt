@@ -8,8 +8,8 @@ use no_memory::NoMemory;
 use std::alloc::Global;
 use std::marker::Model;
 
-/// A literal that was made true, at which level, and by which clause where it was forced: all other
-/// literals of that clause were false. A decision has no reason.
+/// A literal that was made true, at which level, and by the clause of which number where it was
+/// forced: all other literals of that clause were false. A decision has no reason.
 #[derive(Clone, Copy, Debug, PartialEq, Eq)]
 pub struct Entry {
     pub lit: Lit,
@@ -45,7 +45,8 @@ impl Trail {
     ghost use Rattle.sat_watch.specs.Trail.{TrailState, IsSound};
     ghost use Rattle.sat_watch.specs.Watching.{WatchState, Right};
 
-    /// The empty trail over the variables 1 to `vars`, at level 0, with room for each of them.
+    /// The empty trail over the variables 1 to `vars`, at level 0, with room for each of them: no
+    /// other call takes memory. The cost is the number of variables.
     pub fn new(alloc: Global, vars: u32) -> Result<Trail, NoMemory>
         requires { vars < 2 ^ 31 }
         ensures { IfOk result (λ t. t ≡ record { vars = vars; entries = []; level = 0; passed = 0 }) }
@@ -112,7 +113,8 @@ impl Trail {
         self.truths[lit.number() as usize]
     }
 
-    /// Opens the next level with a literal.
+    /// Opens the next level with a literal that has no value, where all entries have been gone
+    /// through. It takes constant time.
     pub fn decide(&mut self, lit: Lit)
         requires over { IsOver self.old.vars lit }
         requires unset { IsOpen (literals self.old.entries) lit }
@@ -129,7 +131,8 @@ impl Trail {
         self.level += 1;
     }
 
-    /// Makes a literal true at the present level.
+    /// Makes a literal that has no value true at the present level, for this reason: the number of
+    /// a clause, if any. It takes constant time.
     pub fn set(&mut self, lit: Lit, reason: Option<u32>)
         requires over { IsOver self.old.vars lit }
         requires unset { IsOpen (literals self.old.entries) lit }

@@ -40,7 +40,7 @@ impl Watches {
     ghost use Rattle.sat_watch.specs.Trail.{TrailState};
     ghost use Rattle.sat_watch.specs.Watching.{WatchState, watch_of, side_of, IsFree, IsSet, IsPending, Right, RightBut, CanPair};
 
-    /// No clauses, over the variables 1 to `vars`.
+    /// No clauses, over the variables 1 to `vars`. The cost is the number of variables.
     pub fn new(alloc: Global, vars: u32) -> Result<Watches, NoMemory>
         requires { vars < 2 ^ 31 }
         ensures vars { IfOk result (λ w. w.vars ≡ vars) }
@@ -62,13 +62,12 @@ impl Watches {
         self.clauses.vars()
     }
 
-    /// The literals of a clause, each once.
+    /// The literals of a clause as they were added, each once.
     pub fn lits(&self, clause: u32) -> &[Lit]
         requires { clause < length self.now.clauses }
         ensures value { result.now ≡ slice_index_or self.now.clauses clause [] }
         ensures watchable { CanWatch self.now.vars result.now }
     {
-        let _ = &self.links;
         self.clauses.clause(clause)
     }
 
