@@ -34,10 +34,6 @@ pub length-without : (xs : List ℕ) (v : ℕ) → EachOnce xs → holds xs v �
 length-without [] v o h = grind arith
 length-without (y ∷ ys) v o h = grind (arith, length-without ys v o.1, without_absent ys v, o.0)
 
-pub before-append-from : (x : ℕ) (xs : List ℕ) → before x xs ++ from x xs ≡ xs
-before-append-from x [] = refl
-before-append-from x (y ∷ ys) = grind (arith, before-append-from x ys)
-
 pub before_absent : (x : ℕ) (xs : List ℕ) → holds xs x ≡ false → before x xs ≡ xs
 before_absent x [] h = refl
 before_absent x (y ∷ ys) h = grind (arith, before_absent x ys)
@@ -129,10 +125,6 @@ apart_behind v (y ∷ ys) o h = elim (tested (eqb y v)) [
 pub holds-push : (xs : List ℕ) (x z : ℕ) → holds (xs ++ x ∷ []) z ≡ true → (holds xs z ≡ true) ⊎ (z ≡ x)
 holds-push [] x z h = grind arith
 holds-push (y ∷ ys) x z h = grind (arith, holds-push ys x z)
-
-pub holds_before : (xs : List ℕ) (c x : ℕ) → holds (before c xs) x ≡ true → holds xs x ≡ true
-holds_before [] c x h = h
-holds_before (y ∷ ys) c x h = grind (arith, holds_before ys c x)
 
 -- what stands before an element that stands before c stands before c
 pub before_before : (xs : List ℕ) (c v x : ℕ) → holds (before c xs) v ≡ true → holds (before v xs) x ≡ true → holds (before c xs) x ≡ true
