@@ -1,0 +1,5 @@
+pub mod Bits
+pub mod Ripple
+pub mod Signed
+pub mod Sums
+pub mod Differences

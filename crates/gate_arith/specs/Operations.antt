@@ -1,0 +1,32 @@
+-- What an operation makes of a circuit: gates with the values of truths and numbers.
+use Rattle.std.specs.Prelude.{◌≡◌, ℕ, ℤ, Bool, true, List, length, map, All, ◌+◌, ◌*◌}
+use Rattle.gate_core.specs.declared.circuit.Node.{Node}
+use Rattle.gate_core.specs.Circuit.{value, IsOf}
+use Rattle.gate_arith.specs.Numbers.{bit, signed, is_within}
+
+-- the truth values of gates
+abbrev pub bits : (ℕ → Bool) → List Node → List ℕ → List Bool
+bits inputs nodes gates = map (value inputs nodes) gates
+
+-- the number that gates show
+abbrev pub shown : List Node → List ℕ → (ℕ → Bool) → ℤ
+shown nodes gates inputs = signed (bits inputs nodes gates)
+
+-- a gate of the circuit, which is true exactly where this is
+pub record IsTruth (nodes : List Node) (truth : (ℕ → Bool) → Bool) (gate : ℕ) : Type 0 where
+  pub of : IsOf nodes gate
+  pub value_is : (inputs : ℕ → Bool) → value inputs nodes gate ≡ truth inputs
+
+-- a number of this width, and a gate that says whether the exact number lies within the width; where it
+-- does, the number is the exact one
+pub record IsNumber (nodes : List Node) (width : ℕ) (exact : (ℕ → Bool) → ℤ) (number : List ℕ) (within : ℕ) : Type 0 where
+  pub of : All (IsOf nodes) number
+  pub wide : length number ≡ width
+  pub within_is : IsTruth nodes (λ inputs. is_within width (exact inputs)) within
+  pub number_is : (inputs : ℕ → Bool) → is_within width (exact inputs) ≡ true → shown nodes number inputs ≡ exact inputs
+
+-- the two bits of a sum: that of its place, and the carry to the next
+pub record AddsBits (nodes : List Node) (exact : (ℕ → Bool) → ℕ) (sum carry : ℕ) : Type 0 where
+  pub sum_of : IsOf nodes sum
+  pub carry_of : IsOf nodes carry
+  pub sum_is : (inputs : ℕ → Bool) → bit (value inputs nodes sum) + 2 * bit (value inputs nodes carry) ≡ exact inputs

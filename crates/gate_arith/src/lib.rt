@@ -1,0 +1,6 @@
+//! Arithmetic on gates: numbers in two's complement, with a gate that says whether a result lies within
+//! the width.
+#![tactic(auto)]
+
+mod logic;
+mod sum;
