@@ -3,3 +3,4 @@ pub mod Ripple
 pub mod Signed
 pub mod Sums
 pub mod Differences
+pub mod Comparisons

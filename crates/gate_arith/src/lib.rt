@@ -2,5 +2,6 @@
 //! the width.
 #![tactic(auto)]
 
+mod compare;
 mod logic;
 mod sum;
