@@ -4,3 +4,4 @@ pub mod Signed
 pub mod Sums
 pub mod Differences
 pub mod Comparisons
+pub mod Choices

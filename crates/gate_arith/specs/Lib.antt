@@ -2,3 +2,4 @@ pub mod Numbers
 pub mod Operations
 pub mod Ripple
 pub mod Comparison
+pub mod Choice

@@ -1,5 +1,5 @@
 -- What an operation makes of a circuit: gates with the values of truths and numbers.
-use Rattle.std.specs.Prelude.{◌≡◌, ℕ, ℤ, Bool, true, List, length, map, All, ◌+◌, ◌*◌}
+use Rattle.std.specs.Prelude.{◌≡◌, ℕ, ℤ, Bool, true, List, length, map, All, ◌+◌, ◌*◌, if◌then◌else◌}
 use Rattle.gate_core.specs.declared.circuit.Node.{Node}
 use Rattle.gate_core.specs.Circuit.{value, IsOf}
 use Rattle.gate_arith.specs.Numbers.{bit, signed, is_within}
@@ -30,3 +30,9 @@ pub record AddsBits (nodes : List Node) (exact : (ℕ → Bool) → ℕ) (sum ca
   pub sum_of : IsOf nodes sum
   pub carry_of : IsOf nodes carry
   pub sum_is : (inputs : ℕ → Bool) → bit (value inputs nodes sum) + 2 * bit (value inputs nodes carry) ≡ exact inputs
+
+-- gates with the bits of one list where the condition is true, and else with those of the other
+pub record IsSelected (old new : List Node) (condition : ℕ) (a b gates : List ℕ) : Type 0 where
+  pub of : All (IsOf new) gates
+  pub wide : length gates ≡ length a
+  pub bits_are : (inputs : ℕ → Bool) → bits inputs new gates ≡ (if value inputs old condition then bits inputs old a else bits inputs old b)

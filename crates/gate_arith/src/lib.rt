@@ -2,6 +2,7 @@
 //! the width.
 #![tactic(auto)]
 
+mod choose;
 mod compare;
 mod logic;
 mod sum;
