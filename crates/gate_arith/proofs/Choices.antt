@@ -26,7 +26,7 @@ push_choice : (b : Bool) (xs ys : List Bool) (x y : Bool) → (if b then xs else
 push_choice true xs ys x y = refl
 push_choice false xs ys x y = refl
 
-bits-take : (inputs : ℕ → Bool) (nodes : List Node) (gates : List ℕ) (i x : ℕ) → i < length gates → x ≡ get_or gates i x
+pub bits-take : (inputs : ℕ → Bool) (nodes : List Node) (gates : List ℕ) (i x : ℕ) → i < length gates → x ≡ get_or gates i x
   → bits inputs nodes (take (i + 1) gates) ≡ bits inputs nodes (take i gates) ++ value inputs nodes x ∷ []
 bits-take inputs nodes gates i x within at =
     ap (bits inputs nodes) (take_more gates i x within ∙ ap (λ g. take i gates ++ g ∷ []) (sym at)) ∙ map-append (value inputs nodes) (take i gates) (x ∷ [])

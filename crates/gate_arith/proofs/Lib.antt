@@ -5,3 +5,4 @@ pub mod Sums
 pub mod Differences
 pub mod Comparisons
 pub mod Choices
+pub mod Counts

@@ -3,3 +3,4 @@ pub mod Operations
 pub mod Ripple
 pub mod Comparison
 pub mod Choice
+pub mod Counting

@@ -1,4 +1,4 @@
-ghost use Rattle.std.specs.Prelude.{◌≡◌, All, length, IfOk};
+ghost use Rattle.std.specs.Prelude.{◌≡◌, All, length, replicate, IfOk};
 ghost use Rattle.gate_core.specs.Circuit.{IsOf, Keeps};
 ghost use Rattle.gate_arith.specs.Operations.{IsSelected};
 ghost use Rattle.gate_arith.specs.Choice.{IsChoice};
@@ -52,4 +52,15 @@ pub fn select(
 {
     let chosen = choose(alloc, gates, condition, a, b)?;
     Ok(chosen)
+}
+
+/// A gate so many times.
+pub(crate) fn repeated(alloc: Global, gate: Gate, count: usize) -> Result<Vec<Gate>, NoMemory>
+    ensures { IfOk result (λ r. r.items ≡ replicate count gate) }
+{
+    let mut gates = Vec::with_capacity(alloc, count)?;
+    for _place in 0..count {
+        gates.push(gate)?;
+    }
+    Ok(gates)
 }

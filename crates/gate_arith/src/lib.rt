@@ -4,5 +4,6 @@
 
 mod choose;
 mod compare;
+mod count;
 mod logic;
 mod sum;

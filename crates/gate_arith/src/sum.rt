@@ -11,7 +11,7 @@ use std::alloc::Global;
 
 /// The bits of the sum of two lists of bits and a carry, and the carry behind them.
 #[tactic(auto, using(crate::proofs::Ripple::growing))]
-fn ripple(
+pub(crate) fn ripple(
     alloc: Global,
     gates: &mut Gates,
     a: &[Gate],
