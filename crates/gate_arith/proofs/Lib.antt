@@ -6,3 +6,4 @@ pub mod Differences
 pub mod Comparisons
 pub mod Choices
 pub mod Counts
+pub mod Products
