@@ -23,7 +23,7 @@ how_many-push [] b = omega arith
 how_many-push (x ∷ xs) b = omega (arith, how_many-push xs b)
 
 -- a list of false gates shows 0
-number_zeros : (inputs : ℕ → Bool) (nodes : List Node) (none n : ℕ) → value inputs nodes none ≡ false → number (bits inputs nodes (replicate n none)) ≡ 0
+pub number_zeros : (inputs : ℕ → Bool) (nodes : List Node) (none n : ℕ) → value inputs nodes none ≡ false → number (bits inputs nodes (replicate n none)) ≡ 0
 number_zeros inputs nodes none zero is_false = refl
 number_zeros inputs nodes none (suc n) is_false = ap (λ v. bit v + 2 * number (bits inputs nodes (replicate n none))) is_false ∙ (let h = number_zeros inputs nodes none n is_false in omega arith)
 

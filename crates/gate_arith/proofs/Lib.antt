@@ -7,3 +7,4 @@ pub mod Comparisons
 pub mod Choices
 pub mod Counts
 pub mod Products
+pub mod Steps
