@@ -82,3 +82,14 @@ within_shorter w (pos m) (negsuc n) false h = neg_shorter w (m * suc n) (m * suc
 within_shorter w (negsuc m) (pos n) b h = neg_shorter w (suc m * n) (suc m * (bit b + (n + n))) (mul-le-mul_left (suc m) (omega arith)) h
 within_shorter w (negsuc m) (negsuc n) true h = pos_shorter w (suc m * suc n) (suc m * suc (n + n)) (mul-le-mul_left (suc m) (omega arith)) (subst (λ z. is_within w (negsuc m *ℤ z) ≡ true) (less_odd n) h)
 within_shorter w (negsuc m) (negsuc n) false h = pos_shorter w (suc m * suc n) (suc m * suc (suc (n + n))) (mul-le-mul_left (suc m) (omega arith)) (subst (λ z. is_within w (negsuc m *ℤ z) ≡ true) (less_even n) h)
+
+-- the factor times a number with a lowest bit more
+pub double_times : (a q : ℤ) (b : Bool) → a *ℤ (pos (bit b) +ℤ (q +ℤ q)) ≡ (if b then a else pos 0) +ℤ (a *ℤ q +ℤ a *ℤ q)
+double_times (pos m) (pos n) true = omega (arith, ints)
+double_times (pos m) (pos n) false = omega (arith, ints)
+double_times (pos m) (negsuc n) true = ap (λ z. pos m *ℤ z) (less_odd n) ∙ omega (arith, ints)
+double_times (pos m) (negsuc n) false = ap (λ z. pos m *ℤ z) (less_even n) ∙ omega (arith, ints)
+double_times (negsuc m) (pos n) true = omega (arith, ints)
+double_times (negsuc m) (pos n) false = omega (arith, ints)
+double_times (negsuc m) (negsuc n) true = ap (λ z. negsuc m *ℤ z) (less_odd n) ∙ omega (arith, ints)
+double_times (negsuc m) (negsuc n) false = ap (λ z. negsuc m *ℤ z) (less_even n) ∙ omega (arith, ints)

@@ -5,8 +5,8 @@ use Rattle.std.proofs.lemmas.List.Elements.{All-append, All-cons, All-head, All-
 use Rattle.std.proofs.Math.Nat.{pow-suc}
 use Rattle.gate_core.specs.declared.circuit.Node.{Node}
 use Rattle.gate_core.specs.Circuit.{value, IsOf, Keeps}
-use Rattle.gate_arith.specs.Numbers.{bit, number}
-use Rattle.gate_arith.specs.Operations.{bits, AddsBits}
+use Rattle.gate_arith.specs.Numbers.{bit, number, signed}
+use Rattle.gate_arith.specs.Operations.{bits, shown, AddsBits}
 use Rattle.gate_arith.specs.Ripple.{IsPartial}
 
 -- one place more
@@ -80,3 +80,7 @@ partial_more old middle new a b first i x y carry s c sum part in_a in_b at_a at
 
 -- the lemmas of a circuit that grows step by step
 pub ruleset growing = (keeps_twice, of_more, partial_none, partial_more)
+
+-- the number that gates show stays
+pub shown_keep : (inputs : ℕ → Bool) (old new : List Node) (gates : List ℕ) → Keeps old new → All (IsOf old) gates → shown new gates inputs ≡ shown old gates inputs
+shown_keep inputs old new gates keeps of = ap signed (bits_keep inputs old new gates keeps of)

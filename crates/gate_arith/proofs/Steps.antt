@@ -113,3 +113,6 @@ narrowed middle third new exact wide top fits y z agrees within is at_y at_z agr
         ∙ ap (λ v. pos (low inputs + 2 ^ top * bit (value inputs middle y)) -ℤ pos (2 ^ top * 2 * bit v)) same
         ∙ sym (whole inputs) ∙ shows;
     }
+
+pub swapped : (y z : ℤ) → y +ℤ z ≡ z +ℤ y
+swapped y z = omega (arith, ints)

@@ -1,5 +1,5 @@
 -- What an operation makes of a circuit: gates with the values of truths and numbers.
-use Rattle.std.specs.Prelude.{◌≡◌, ℕ, ℤ, Bool, true, List, length, map, All, ◌+◌, ◌*◌, if◌then◌else◌}
+use Rattle.std.specs.Prelude.{◌≡◌, ℕ, ℤ, Bool, true, List, length, map, All, ◌+◌, ◌*◌, if◌then◌else◌, pos, ◌+ℤ◌}
 use Rattle.gate_core.specs.declared.circuit.Node.{Node}
 use Rattle.gate_core.specs.Circuit.{value, IsOf}
 use Rattle.gate_arith.specs.Numbers.{bit, signed, is_within}
@@ -36,3 +36,8 @@ pub record IsSelected (old new : List Node) (condition : ℕ) (a b gates : List 
   pub of : All (IsOf new) gates
   pub wide : length gates ≡ length a
   pub bits_are : (inputs : ℕ → Bool) → bits inputs new gates ≡ (if value inputs old condition then bits inputs old a else bits inputs old b)
+
+-- the factor where its bit is set, added to a number doubled
+abbrev pub doubled_with : List Node → ℕ → List ℕ → List ℕ → (ℕ → Bool) → ℤ
+doubled_with nodes condition a gates inputs =
+    (if value inputs nodes condition then shown nodes a inputs else pos 0) +ℤ (shown nodes gates inputs +ℤ shown nodes gates inputs)

@@ -6,4 +6,5 @@ mod choose;
 mod compare;
 mod count;
 mod logic;
+mod product;
 mod sum;
