@@ -8,3 +8,4 @@ pub mod Choices
 pub mod Counts
 pub mod Products
 pub mod Steps
+pub mod Factors

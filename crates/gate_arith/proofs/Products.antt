@@ -1,20 +1,19 @@
 -- A product, bit by bit from the sign down: each step doubles what is there and adds the other factor or not.
-use Rattle.std.proofs.Common.{◌≡◌, ℕ, zero, suc, ◌+◌, ◌-◌, ◌*◌, ◌^◌, ◌<◌, ◌≤◌, Bool, true, false, not, ◌&&◌, List, [], ◌∷◌, ◌++◌, length, map, take, drop, get_or, refl, sym, ap, subst, ◌∙◌, arith, length-append, add-one, ℤ, pos, negsuc, ◌+ℤ◌, ◌-ℤ◌, ◌*ℤ◌, neg_ℤ, ◌≤ℤ◌, ◌<ℤ◌, All}
-use Rattle.std.specs.Prelude.{nat_lt, if◌then◌else◌}
+use Rattle.std.proofs.Common.{◌≡◌, ℕ, zero, suc, ◌+◌, ◌-◌, ◌*◌, ◌^◌, ◌<◌, ◌≤◌, Bool, true, false, not, List, [], ◌∷◌, ◌++◌, length, get_or, refl, sym, ap, subst, ◌∙◌, arith, ℤ, pos, negsuc, ◌+ℤ◌, ◌-ℤ◌, ◌*ℤ◌, neg_ℤ}
+use Rattle.std.specs.Prelude.{if◌then◌else◌}
 use Rattle.std.proofs.lemmas.Int.{ints}
-use Rattle.std.proofs.lemmas.Bool.{le-ltb, lt-ltb, ltb-true, ltb-false, false≢true}
+use Rattle.std.proofs.lemmas.Bool.{lt-ltb, ltb-true}
 use Rattle.std.proofs.Math.Nat.{pow-suc, mul-le-mul_left}
 use Rattle.std.proofs.lemmas.Nat.{pow_pos}
 use Rattle.gate_arith.specs.Numbers.{bit, number, sign, signed, is_within, differ}
-use Rattle.gate_arith.proofs.Bits.{bit_le}
-use Rattle.gate_arith.proofs.Signed.{signed_push, number_below, within_true, within_high, within_low}
+use Rattle.gate_arith.proofs.Signed.{signed_push, within_true, within_high, within_low}
 
 -- a lowest bit more doubles the number
 cons_by : (b : Bool) (bs : List Bool) (s : Bool) → sign bs ≡ s → sign (b ∷ bs) ≡ s → signed (b ∷ bs) ≡ pos (bit b) +ℤ (signed bs +ℤ signed bs)
 cons_by b bs true is is_too =
     ap (λ t. if t then pos (bit b + 2 * number bs) -ℤ pos (2 ^ suc (length bs)) else pos (bit b + 2 * number bs)) is_too
     ∙ (let whole : signed bs ≡ pos (number bs) -ℤ pos (2 ^ length bs) = ap (λ t. if t then pos (number bs) -ℤ pos (2 ^ length bs) else pos (number bs)) is in
-       let power = pow-suc 2 (length bs) in omega (arith, ints))
+    let power = pow-suc 2 (length bs) in omega (arith, ints))
 cons_by b bs false is is_too =
     ap (λ t. if t then pos (bit b + 2 * number bs) -ℤ pos (2 ^ suc (length bs)) else pos (bit b + 2 * number bs)) is_too
     ∙ (let whole : signed bs ≡ pos (number bs) = ap (λ t. if t then pos (number bs) -ℤ pos (2 ^ length bs) else pos (number bs)) is in omega (arith, ints))

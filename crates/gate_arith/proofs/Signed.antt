@@ -1,6 +1,6 @@
 -- Sums in two's complement: what the sign and the carries say.
-use Rattle.std.proofs.Common.{◌≡◌, ℕ, suc, zero, ◌+◌, ◌-◌, ◌*◌, ◌^◌, ◌<◌, ◌≤◌, Bool, true, false, not, List, [], ◌∷◌, ◌++◌, length, get_or, refl, sym, ap, subst, ◌∙◌, arith, length-append, ℤ, pos, negsuc, ◌+ℤ◌, ◌-ℤ◌, ◌*ℤ◌, ◌≤ℤ◌, ◌<ℤ◌}
-use Rattle.std.specs.Prelude.{nat_lt, if◌then◌else◌}
+use Rattle.std.proofs.Common.{◌≡◌, ℕ, suc, ◌+◌, ◌-◌, ◌*◌, ◌^◌, ◌<◌, Bool, true, false, not, List, [], ◌∷◌, ◌++◌, length, refl, sym, ap, ◌∙◌, arith, length-append, ℤ, pos, negsuc, ◌+ℤ◌, ◌-ℤ◌, ◌≤ℤ◌, ◌<ℤ◌}
+use Rattle.std.specs.Prelude.{if◌then◌else◌}
 use Rattle.std.proofs.lemmas.Int.{ints}
 use Rattle.std.proofs.lemmas.List.{get_or_push}
 use Rattle.std.proofs.lemmas.Bool.{lt-ltb, le-ltb}
@@ -15,7 +15,7 @@ sign_push low t = get_or_push low t false (length (low ++ t ∷ []) - 1) (omega 
 
 -- two equations of a signed number, by its sign
 signed_by : (bits : List Bool) (t : Bool) (n m p : ℕ) → sign bits ≡ t → number bits ≡ n + p * bit t → length bits ≡ suc m → p ≡ 2 ^ m → n < p
-  → signed bits ≡ pos n -ℤ pos (p * bit t)
+    → signed bits ≡ pos n -ℤ pos (p * bit t)
 signed_by bits true n m p is_sign is_number is_length power less =
     let whole : 2 ^ length bits ≡ p * 2 = ap (λ k. 2 ^ k) is_length ∙ pow-suc 2 m ∙ ap (λ q. q * 2) (sym power) in
     ap (λ b. if b then pos (number bits) -ℤ pos (2 ^ length bits) else pos (number bits)) is_sign
@@ -33,7 +33,7 @@ number_below (b ∷ bits) = omega (arith, number_below bits, bit_le b, pow-suc 2
 pub signed_push : (low : List Bool) (t : Bool) → signed (low ++ t ∷ []) ≡ pos (number low) -ℤ pos (2 ^ length low * bit t)
 signed_push low t =
     signed_by (low ++ t ∷ []) t (number low) (length low) (2 ^ length low) (sign_push low t) (number-push low t)
-      (length-append low (t ∷ []) ∙ omega arith) refl (number_below low)
+    (length-append low (t ∷ []) ∙ omega arith) refl (number_below low)
 
 -- within a width, by its ends
 pub within_true : (w p : ℕ) (z : ℤ) → p ≡ 2 ^ (w - 1) → (pos 0 -ℤ pos p) ≤ℤ z → z <ℤ pos p → is_within w z ≡ true
@@ -63,7 +63,7 @@ shown_sum p n_s t_s = pos n_s -ℤ pos (p * bit t_s)
 
 -- they differ by the carries into and out of the sign
 sum_apart : (p n_a n_b n_s c0 x_a x_b x_s x_in x_out : ℕ) → n_s + p * x_in ≡ n_a + n_b + c0 → x_s + 2 * x_out ≡ x_a + x_b + x_in
-  → ((pos n_a -ℤ pos (p * x_a)) +ℤ (pos n_b -ℤ pos (p * x_b)) +ℤ pos c0) +ℤ pos (p * 2 * x_out) ≡ (pos n_s -ℤ pos (p * x_s)) +ℤ pos (p * 2 * x_in)
+    → ((pos n_a -ℤ pos (p * x_a)) +ℤ (pos n_b -ℤ pos (p * x_b)) +ℤ pos c0) +ℤ pos (p * 2 * x_out) ≡ (pos n_s -ℤ pos (p * x_s)) +ℤ pos (p * 2 * x_in)
 sum_apart p n_a n_b n_s c0 x_a x_b x_s x_in x_out low signs =
     let scaled : p * (x_s + 2 * x_out) ≡ p * (x_a + x_b + x_in) = ap (λ n. p * n) signs in
     omega (arith, ints)
@@ -83,7 +83,7 @@ sum_same p n_a n_b n_s c0 t_a t_b t_s c split =
     omega (arith, ints)
 
 pub sum_within : (w p n_a n_b n_s c0 : ℕ) (t_a t_b t_s c_in c_out : Bool) → p ≡ 2 ^ (w - 1) → IsSplit p n_a n_b n_s c0 t_a t_b t_s c_in c_out
-  → is_within w (exact_sum p n_a n_b c0 t_a t_b) ≡ not (differ c_in c_out)
+    → is_within w (exact_sum p n_a n_b c0 t_a t_b) ≡ not (differ c_in c_out)
 sum_within w p n_a n_b n_s c0 t_a t_b t_s true true is split =
     let same = sum_same p n_a n_b n_s c0 t_a t_b t_s true split in
     ap (is_within w) (sym same) ∙ within_true w p (shown_sum p n_s t_s) is (shown_low p n_s t_s) (shown_high p n_s t_s split.small)

@@ -1,5 +1,5 @@
 -- What an operation makes of a circuit: gates with the values of truths and numbers.
-use Rattle.std.specs.Prelude.{◌≡◌, ℕ, ℤ, Bool, true, List, length, map, All, ◌+◌, ◌*◌, if◌then◌else◌, pos, ◌+ℤ◌}
+use Rattle.std.specs.Prelude.{◌≡◌, ℕ, ℤ, Bool, true, List, length, map, drop, All, ◌+◌, ◌*◌, if◌then◌else◌, pos, ◌+ℤ◌}
 use Rattle.gate_core.specs.declared.circuit.Node.{Node}
 use Rattle.gate_core.specs.Circuit.{value, IsOf}
 use Rattle.gate_arith.specs.Numbers.{bit, signed, is_within}
@@ -41,3 +41,7 @@ pub record IsSelected (old new : List Node) (condition : ℕ) (a b gates : List 
 abbrev pub doubled_with : List Node → ℕ → List ℕ → List ℕ → (ℕ → Bool) → ℤ
 doubled_with nodes condition a gates inputs =
     (if value inputs nodes condition then shown nodes a inputs else pos 0) +ℤ (shown nodes gates inputs +ℤ shown nodes gates inputs)
+
+-- the number of the bits from a place on
+abbrev pub high : List Node → List ℕ → ℕ → (ℕ → Bool) → ℤ
+high nodes gates place inputs = signed (drop place (bits inputs nodes gates))

@@ -12,4 +12,4 @@ pub record IsPartial (old new : List Node) (a b : List ℕ) (first i : ℕ) (sum
   pub wide : length sum ≡ i
   pub carry_of : IsOf new carry
   pub sum_is : (inputs : ℕ → Bool) → number (bits inputs new sum) + 2 ^ i * bit (value inputs new carry)
-    ≡ number (bits inputs old (take i a)) + number (bits inputs old (take i b)) + bit (value inputs old first)
+      ≡ number (bits inputs old (take i a)) + number (bits inputs old (take i b)) + bit (value inputs old first)

@@ -44,12 +44,7 @@ fn and_agree(gates: &mut Gates, x: Gate, y: Gate, before: Gate) -> Result<Gate, 
 
 /// Whether the first `count` places of one list show a lower number than those of another.
 #[tactic(auto, using(crate::proofs::Ripple::growing))]
-fn below_low(
-    gates: &mut Gates,
-    a: &[Gate],
-    b: &[Gate],
-    count: usize,
-) -> Result<Gate, NoMemory>
+fn below_low(gates: &mut Gates, a: &[Gate], b: &[Gate], count: usize) -> Result<Gate, NoMemory>
     requires left { All (IsOf gates.old) a.now }
     requires right { All (IsOf gates.old) b.now }
     requires in_a { count ≤ length a.now }
@@ -68,12 +63,7 @@ fn below_low(
 
 /// Whether the first `count` places of two lists show one number.
 #[tactic(auto, using(crate::proofs::Ripple::growing))]
-fn same_low(
-    gates: &mut Gates,
-    a: &[Gate],
-    b: &[Gate],
-    count: usize,
-) -> Result<Gate, NoMemory>
+fn same_low(gates: &mut Gates, a: &[Gate], b: &[Gate], count: usize) -> Result<Gate, NoMemory>
     requires left { All (IsOf gates.old) a.now }
     requires right { All (IsOf gates.old) b.now }
     requires in_a { count ≤ length a.now }

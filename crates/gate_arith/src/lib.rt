@@ -2,9 +2,17 @@
 //! the width.
 #![tactic(auto)]
 
+mod adder;
 mod choose;
 mod compare;
-mod count;
+mod counter;
 mod logic;
-mod product;
-mod sum;
+mod multiplier;
+#[cfg(test)]
+mod tests;
+
+pub use adder::{difference, sum};
+pub use choose::select;
+pub use compare::{below, same};
+pub use counter::count;
+pub use multiplier::product;

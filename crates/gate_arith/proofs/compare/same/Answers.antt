@@ -1,6 +1,6 @@
 -- The lower places, and then the signs.
-use Rattle.std.proofs.Common.{◌≡◌, ℕ, suc, ◌+◌, ◌-◌, ◌<◌, ◌≤◌, Bool, length, arith, subst, not, ◌&&◌, ℤ}
-use Rattle.std.specs.Prelude.{nat_lt, ◌==◌, int_lt, if◌then◌else◌}
+use Rattle.std.proofs.Common.{◌≡◌, ℕ, suc, ◌-◌, Bool, length, arith, not, ◌&&◌}
+use Rattle.std.specs.Prelude.{◌==◌}
 use Rattle.std.specs.Ordering.{int_eq}
 use Rattle.gate_core.specs.Circuit.{IsOf}
 use Rattle.gate_arith.specs.Numbers.{differ}
@@ -19,4 +19,4 @@ returns-clause-same c =
     let of_x : IsOf c.args.gates.now x = grind (arith, c.requires.left top x (omega arith), c.index-a-top.is) in
     let of_y : IsOf c.args.gates.now y = grind (arith, c.requires.right top y (omega arith), c.index-b-top.is) in
     compared (λ x y. int_eq x y) (λ n m. n == m) (λ (s t v : Bool). v && not (differ s t)) c.args.gates.now c.same_low.new.gates c.and_agree.new.gates a b top x y c.in_ok-low.low c.in_ok-gate.gate
-      same_signs long_a long_b c.in_ok-low.ensures.tested c.index-a-top.is c.index-b-top.is of_x of_y c.in_ok-gate.ensures.truth
+    same_signs long_a long_b c.in_ok-low.ensures.tested c.index-a-top.is c.index-b-top.is of_x of_y c.in_ok-gate.ensures.truth
