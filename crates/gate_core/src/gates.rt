@@ -1,4 +1,4 @@
-ghost use Rattle.std.specs.Prelude.{◌≡◌, ℕ, ◌+◌, ◌*◌, ◌<◌, ◌≤◌, ◌^◌, ◌++◌, ◌∷◌, [], ◌&&◌, Bool, length, IfOk, OnOk, OnErr, Some, slice_get, min, max};
+ghost use Rattle.std.specs.Prelude.{◌≡◌, ℕ, ◌+◌, ◌*◌, ◌<◌, ◌≤◌, ◌^◌, ◌++◌, ◌∷◌, [], ◌&&◌, Bool, length, IfOk, OnOk, OnErr, Some, slice_get, if◌then◌else◌};
 ghost use Rattle.gate_core.specs.Circuit.{value, conjunction, IsOf, Keeps, IsConjunction, IsCircuit, Joins, PairsHaveOneGate, simplified};
 ghost use Rattle.gate_core.specs.declared.circuit.Node.TheVariants.{Zero, Input};
 
@@ -77,6 +77,17 @@ impl Gates {
     {
         let gate = conjunction::join(self.alloc, &mut self.cells, &mut self.heads, a, b)?;
         Ok(gate)
+    }
+
+    /// The gate that is always false, or always true. No memory is taken.
+    pub fn constant(&self, truth: bool) -> Gate
+        ensures gate { result ≡ (if truth then 1 else 0) }
+        ensures value { (inputs : ℕ → Bool) → value inputs self.now result ≡ truth }
+        ensures of { IsOf self.now result }
+    {
+        // what holds of every circuit is known once its nodes are looked at: node 0 is the constant
+        let _count = self.nodes();
+        Gate::constant(truth)
     }
 
     /// The number of nodes, the constant included. No memory is taken.

@@ -1,0 +1,11 @@
+pub mod Bits
+pub mod Ripple
+pub mod Signed
+pub mod Sums
+pub mod Differences
+pub mod Comparisons
+pub mod Choices
+pub mod Counts
+pub mod Products
+pub mod Steps
+pub mod Factors

@@ -1,0 +1,6 @@
+use Rattle.std.specs.Prelude.{◌==◌}
+use Rattle.gate_arith.specs.Comparison.{IsTested}
+use Rattle.gate_arith.proofs.compare.same_low.Given as goal
+
+abbrev pub invariant-loop-place : goal.invariant-loop-place
+invariant-loop-place l = IsTested (λ n m. n == m) l.fn.gates l.gates l.a l.b l.place l.same
