@@ -1,4 +1,6 @@
 pub mod Counting
+pub mod Meeting
+pub mod InOrder
 pub mod Ranges
 mod Rows
 pub mod TupleOrder
