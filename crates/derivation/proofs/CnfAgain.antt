@@ -1,11 +1,11 @@
 -- A text is that of one formula alone, and then it has no fault.
-use Rattle.std.proofs.Common.{◌≡◌, ◌≢◌, ℕ, ◌+◌, ◌/◌, ◌^◌, ◌≤◌, ◌<◌, ◌==◌, suc, zero, Bool, true, false, not, ◌&&◌, ◌⊎◌, All, Result, Ok, Err, IfOk, IfErr, List, [], ◌∷◌, ◌++◌, map, length, get_or, codes, refl, sym, ap, subst, inl, inr, ◌∙◌, arith, lit≤}
-use Rattle.std.specs.List.{list_all, list_any}
+use Rattle.std.proofs.Common.{◌≡◌, ◌≢◌, ℕ, ◌^◌, ◌≤◌, ◌<◌, ◌==◌, suc, zero, true, ◌⊎◌, All, Result, Ok, Err, IfOk, IfErr, List, [], ◌∷◌, ◌++◌, map, length, get_or, codes, refl, sym, ap, subst, inl, inr, ◌∙◌, arith}
+use Rattle.std.specs.List.{list_all}
 use Rattle.std.specs.Fmt.{decimal}
-use Rattle.std.proofs.lemmas.Bool.{and_parts, and_from, false≢true, eqb-true, ne_eqb}
-use Rattle.std.proofs.lemmas.Fmt.{decimal_injective, decimal_nonempty}
+use Rattle.std.proofs.lemmas.Bool.{and_parts, and_from, eqb-true}
+use Rattle.std.proofs.lemmas.Fmt.{decimal_injective}
 use Rattle.std.proofs.lemmas.List.{append_assoc, append-nil, map-append}
-use Rattle.std.proofs.lemmas.List.Elements.{All-head, All-tail, All-cons, All-nil, All-append}
+use Rattle.std.proofs.lemmas.List.Elements.{All-head, All-tail, All-cons, All-nil}
 use Rattle.cnf_core.specs.Clauses.{Clauses}
 use Rattle.cnf_core.specs.Literal.{IsOver}
 use Rattle.derivation.specs.declared.fault.TextFault.{TextFault}
@@ -13,7 +13,7 @@ use Rattle.derivation.specs.declared.fault.TextFault.TheVariants.{BadText, NoMem
 use Rattle.derivation.specs.CnfText.{IsSmall, entries, cnf_words, spelling, in_line, placed, Spell, Begin, closes, IsClosing, AreOf, IsWrongWord, IsShort, BlamesWords}
 use Rattle.derivation.specs.Entry.{IsEntry}
 use Rattle.derivation.specs.Reading.{IsReadAs}
-use Rattle.derivation.specs.Runs.{Run, is_blank, is_line_end}
+use Rattle.derivation.specs.Runs.{Run, is_blank}
 use Rattle.derivation.specs.Texts.{literal_text}
 use Rattle.derivation.proofs.Bodies.{AreOver, entries_are}
 use Rattle.derivation.proofs.LineTexts.{IsWord, number_word, literal_word}

@@ -1,5 +1,5 @@
 -- Lists of bytes, cut at a byte: each way of it is the only one.
-use Rattle.std.proofs.Common.{◌≡◌, ℕ, ◌==◌, Bool, true, false, not, ◌&&◌, List, [], ◌∷◌, ◌++◌, All, length, drop, refl, sym, ap, ◌∙◌, arith}
+use Rattle.std.proofs.Common.{◌≡◌, ℕ, ◌==◌, true, false, not, List, [], ◌∷◌, ◌++◌, All, drop, refl, sym, ap, ◌∙◌}
 use Rattle.std.specs.List.{list_all, slice_split, join_with_byte}
 use Rattle.std.proofs.lemmas.Bool.{and_parts, and_from, not-true, not_from_true, false≢true, eq-eqb}
 use Rattle.std.proofs.lemmas.List.Folds.{list_all-append}

@@ -1,6 +1,6 @@
 -- The header of a formula's text: what its first words can be.
-use Rattle.std.proofs.Common.{◌≡◌, ℕ, ◌+◌, ◌≤◌, ◌<◌, Bool, true, false, ◌&&◌, ◌||◌, Result, Err, All, List, [], ◌∷◌, ◌++◌, map, length, codes, IsTrue, refl, sym, ap, inl, inr, ◌∙◌, arith, lit≤}
-use Rattle.std.specs.List.{list_all, list_any, flat_map}
+use Rattle.std.proofs.Common.{◌≡◌, ℕ, ◌≤◌, true, false, ◌&&◌, All, List, [], ◌∷◌, ◌++◌, length, codes, refl, sym, ap, inl, inr, ◌∙◌, lit≤}
+use Rattle.std.specs.List.{list_all}
 use Rattle.std.specs.Fmt.{decimal}
 use Rattle.std.proofs.lemmas.Bool.{and_parts, and_from}
 use Rattle.std.proofs.lemmas.List.{append-nil}
@@ -9,9 +9,9 @@ use Rattle.cnf_core.specs.Clauses.{Clauses}
 use Rattle.cnf_core.specs.Literal.{IsOver}
 use Rattle.derivation.specs.declared.fault.TextFault.{TextFault}
 use Rattle.derivation.specs.declared.fault.TextFault.TheVariants.{BadText, NoMemory}
-use Rattle.derivation.specs.CnfText.{IsSmall, cnf_words, spelling, placed, Spell, Begin, closes, IsWrongWord, IsShort, BlamesWords}
+use Rattle.derivation.specs.CnfText.{IsSmall, cnf_words, Spell, Begin, BlamesWords}
 use Rattle.derivation.specs.Runs.{Run, is_blank}
-use Rattle.derivation.specs.Slots.{IsNamed, IsCount, IsMissed, Misses}
+use Rattle.derivation.specs.Slots.{IsNamed, IsCount, Misses}
 
 -- Words that some formula's begin with, but that spell none; and what each word is like with which it goes on.
 pub record HeadAt (front : List Run) (P : Run → Type 0) : Type 0 where

@@ -11,6 +11,7 @@ pub mod Marked
 pub mod Numbers
 pub mod Once
 pub mod Rising
+pub mod Rows
 pub mod RunLemmas
 pub mod Sequences
 pub mod Sound

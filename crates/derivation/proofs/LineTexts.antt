@@ -1,15 +1,15 @@
 -- The text of a line: its words stand apart, and it ends at the first line feed.
-use Rattle.std.proofs.Common.{◌≡◌, ◌≢◌, ℕ, ◌+◌, ◌-◌, ◌/◌, ◌^◌, ◌<◌, ◌≤◌, ◌==◌, Bool, true, false, not, ◌&&◌, All, List, [], ◌∷◌, ◌++◌, map, length, get_or, suc, zero, refl, sym, ap, subst, inl, inr, ◌∙◌, arith}
+use Rattle.std.proofs.Common.{◌≡◌, ℕ, ◌/◌, ◌^◌, ◌<◌, ◌≤◌, ◌==◌, true, All, List, [], ◌∷◌, ◌++◌, map, length, get_or, suc, zero, refl, sym, ap, subst, inl, inr, ◌∙◌, arith}
 use Rattle.std.specs.Fmt.{decimal}
 use Rattle.std.specs.List.{list_all, slice_split, join_with_byte}
-use Rattle.std.proofs.lemmas.Bool.{and_from, cases_Bool, ne_eqb, not_from_false, false≢true}
-use Rattle.std.proofs.lemmas.List.{append_assoc, map-append}
+use Rattle.std.proofs.lemmas.Bool.{and_from, cases_Bool, ne_eqb, not_from_false}
+use Rattle.std.proofs.lemmas.List.{append_assoc}
 use Rattle.std.proofs.lemmas.List.Elements.{All-head, All-tail, All-append, All-cons, All-nil}
 use Rattle.std.proofs.lemmas.List.Folds.{list_all-append}
 use Rattle.std.proofs.lemmas.List.Splits.{join_with_byte-slice_split}
-use Rattle.cnf_core.specs.Literal.{is_negative, IsOver}
+use Rattle.cnf_core.specs.Literal.{is_negative}
 use Rattle.derivation.specs.Cuts.{lacks, IsCut}
-use Rattle.derivation.specs.LogText.{IsLine, AreHints, line_words, line_text}
+use Rattle.derivation.specs.LogText.{IsLine, line_words, line_text}
 use Rattle.derivation.specs.Step.{Step}
 use Rattle.derivation.specs.Texts.{literal_text}
 use Rattle.derivation.proofs.CutLemmas.{SameCut, same_cut, split_joined, lacks_joined}

@@ -1,12 +1,11 @@
 -- A text is that of one log alone, and then no line of it is bad.
-use Rattle.std.proofs.Common.{◌≡◌, ◌≢◌, ℕ, ◌^◌, ◌<◌, All, Result, Ok, Err, IfOk, IfErr, List, [], ◌∷◌, ◌++◌, map, length, refl, sym, ap, subst, ◌∙◌, arith}
+use Rattle.std.proofs.Common.{◌≡◌, ℕ, ◌^◌, ◌<◌, All, Result, Ok, Err, IfOk, IfErr, List, [], ◌∷◌, ◌++◌, map, refl, sym, ap, subst, ◌∙◌, arith}
 use Rattle.std.specs.Fmt.{decimal}
-use Rattle.std.specs.List.{slice_split, join_with_byte}
-use Rattle.std.proofs.lemmas.Bool.{false≢true}
+use Rattle.std.specs.List.{join_with_byte}
 use Rattle.std.proofs.lemmas.List.{append_assoc, append-nil}
 use Rattle.std.proofs.lemmas.List.Elements.{All-head, All-tail}
 use Rattle.cnf_core.specs.Literal.{IsOver}
-use Rattle.derivation.specs.Cuts.{lacks, IsCut}
+use Rattle.derivation.specs.Cuts.{IsCut}
 use Rattle.derivation.specs.declared.fault.TextFault.{TextFault}
 use Rattle.derivation.specs.declared.fault.TextFault.TheVariants.{BadText, NoMemory}
 use Rattle.derivation.specs.LogText.{IsLine, IsLogText, IsBadLine, BlamesLine, line_words, line_text, text_of_log}

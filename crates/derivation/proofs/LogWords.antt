@@ -1,5 +1,5 @@
 -- The words of a clause in a log, read one after the other.
-use Rattle.std.proofs.Common.{◌≡◌, ◌≢◌, ℕ, ◌+◌, ◌-◌, ◌/◌, ◌^◌, ◌<◌, ◌≤◌, All, List, [], ◌∷◌, ◌++◌, map, length, drop, refl, sym, ap, subst, ◌∙◌, arith}
+use Rattle.std.proofs.Common.{◌≡◌, ℕ, ◌/◌, ◌^◌, ◌<◌, All, List, [], ◌∷◌, ◌++◌, map, sym, ap, subst, ◌∙◌, arith}
 use Rattle.std.specs.Fmt.{decimal}
 use Rattle.std.specs.List.Sorted.{IsStrictlyIncreasing}
 use Rattle.std.proofs.lemmas.List.Elements.{All-head, All-tail}
@@ -11,7 +11,7 @@ use Rattle.derivation.specs.LogText.{IsClause, AreHints}
 use Rattle.derivation.specs.Texts.{literal_text}
 use Rattle.derivation.proofs.Literals.{literal_injective}
 use Rattle.derivation.proofs.Rising.{vars_of, rising_to}
-use Rattle.derivation.proofs.Sequences.{HasWords, Goes, goes, SameFront, same_front}
+use Rattle.derivation.proofs.Sequences.{HasWords, Goes, goes}
 
 -- literals over few enough variables have words of their own
 pub literal_words : (vars : ℕ) → vars < 2 ^ 31 → HasWords literal_text (IsOver vars)

@@ -1,5 +1,5 @@
 -- A table that marks nothing that is true marks exactly the literals of an empty trail.
-use Rattle.std.proofs.Common.{◌≡◌, ℕ, Bool, true, false, List, [], slice_index_or, sym, ◌∙◌}
+use Rattle.std.proofs.Common.{◌≡◌, ℕ, Bool, true, false, List, [], slice_index_or}
 use Rattle.std.proofs.lemmas.Bool.{false_from_ne_true, false≢true}
 use Rattle.derivation.specs.Propagation.{is_true}
 use Rattle.derivation.specs.Marks.{AreMarks}

@@ -1,11 +1,11 @@
 -- Decimal numbers: their digits, and that no two have one text.
-use Rattle.std.proofs.Common.{◌≡◌, ◌≢◌, ℕ, ◌+◌, ◌*◌, ◌/◌, ◌%◌, ◌^◌, ◌<◌, ◌≤◌, ◌==◌, ◌&&◌, ◌||◌, nat_lt, Bool, true, false, Result, Ok, List, [], ◌∷◌, length, get_or, slice_index, suc, zero, refl, sym, ap, subst, inl, inr, ◌∙◌, arith}
+use Rattle.std.proofs.Common.{◌≡◌, ℕ, ◌^◌, ◌<◌, ◌==◌, ◌&&◌, ◌||◌, nat_lt, Bool, false, Result, Ok, List, length, get_or, slice_index, suc, zero, sym, ap, subst, inl, inr, ◌∙◌, arith}
 use Rattle.std.specs.Fmt.{decimal}
 use Rattle.std.specs.Result.{OkIff}
 use Rattle.std.specs.Str.Parse.{AllDigits, digits_value, ParsesUnsigned}
-use Rattle.std.proofs.lemmas.Bool.{cases_Bool, ne_eqb, le-ltb, or_from, and_left, and_right, eq-eqb, or_parts, eqb-true, eqb-false, ltb-false, and_cases}
+use Rattle.std.proofs.lemmas.Bool.{ne_eqb, or_from, and_left, or_parts, eqb-false, ltb-false, and_cases}
 use Rattle.std.proofs.lemmas.Str.Parse.{IsNumeralModel, numerals_by_value, tells_digits, digit_at, parse_plain}
-use Rattle.std.proofs.lemmas.Fmt.{decimal_is_IsNumeral, first_decimal, decimal_nonempty, digits_decimal, decimal_digit, decimal-digits_value}
+use Rattle.std.proofs.lemmas.Fmt.{first_decimal, digits_decimal, decimal_digit, decimal-digits_value}
 use Rattle.std.specs.Int.{IsInRange}
 
 pub own : IsNumeralModel (AllDigits 10) (digits_value 10)

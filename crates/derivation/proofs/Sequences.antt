@@ -1,5 +1,5 @@
 -- Words that spell numbers and end with the word of 0: what they spell is the only list that they do.
-use Rattle.std.proofs.Common.{◌≡◌, ℕ, All, List, [], ◌∷◌, ◌++◌, map, length, take, drop, refl, sym, ap, ◌∙◌, arith}
+use Rattle.std.proofs.Common.{◌≡◌, ℕ, All, List, [], ◌∷◌, ◌++◌, map, drop, refl, ap}
 use Rattle.std.proofs.lemmas.List.Elements.{All-head, All-tail}
 
 -- Each of these numbers has a word of its own, other than that of 0.

@@ -4,14 +4,14 @@ use Rattle.std.proofs.lemmas.List.Folds.{list_all-append}
 use Rattle.std.proofs.lemmas.Bool.{false≢true, and_parts, or_cases, or_left, or_right, eqb-true, cases_Bool, not-true, cond_both, and_from, or_parts, ltb-true, leb-true, true_from_ne_false, ne_eqb}
 use Rattle.std.proofs.lemmas.Bool.Decides.{nat_tests}
 use Rattle.std.specs.Option.{option_map_or}
-use Rattle.std.specs.List.{list_any, list_all}
+use Rattle.std.specs.List.{list_all}
 use Rattle.cnf_core.specs.Literal.{negated, is_negative}
-use Rattle.cnf_core.specs.Truth.{lit_holds, clause_holds, clauses_hold, Satisfies, IsUnsatisfiable}
+use Rattle.cnf_core.specs.Truth.{lit_holds, clause_holds, clauses_hold, IsUnsatisfiable}
 use Rattle.derivation.specs.Step.{Step}
 use Rattle.derivation.specs.declared.effect.Effect.{Effect}
 use Rattle.derivation.specs.declared.effect.Effect.TheVariants.{Conflicts, Forces, Fails}
-use Rattle.derivation.specs.Propagation.{is_true, not_false, effect_by, effect_of, is_hint, hinted, goes_on, ends, once, follows, Follows}
-use Rattle.derivation.specs.Logs.{clauses_of, valid, Valid, ends_empty, Refutes}
+use Rattle.derivation.specs.Propagation.{is_true, not_false, effect_by, effect_of, is_hint, hinted, goes_on, ends, once, follows}
+use Rattle.derivation.specs.Logs.{clauses_of, valid, ends_empty}
 
 same_half : (lit : ℕ) → negated lit / 2 ≡ lit / 2
 same_half lit = grind (arith, nat_tests)

@@ -1,5 +1,5 @@
 -- The text of a formula: DIMACS CNF, as the SAT competitions use it.
-use Rattle.std.specs.Prelude.{◌≡◌, ℕ, ◌+◌, ◌-◌, ◌<◌, ◌≤◌, ◌==◌, zero, suc, Bool, true, false, ◌&&◌, ◌⊎◌, List, [], ◌∷◌, ◌++◌, All, length, map, codes, slice_index, IsTrue}
+use Rattle.std.specs.Prelude.{◌≡◌, ℕ, ◌-◌, ◌≤◌, ◌==◌, zero, suc, Bool, true, ◌&&◌, ◌⊎◌, List, [], ◌∷◌, ◌++◌, All, length, map, codes, slice_index, IsTrue}
 use Rattle.std.specs.List.{flat_map, join_with_byte, list_any, list_all}
 use Rattle.std.specs.Fmt.{decimal}
 use Rattle.cnf_core.specs.Clauses.{Clauses}

@@ -1,5 +1,5 @@
 -- Logs: lines that follow one after the other from the clauses of a formula.
-use Rattle.std.specs.Prelude.{◌≡◌, ◌≢◌, ℕ, ◌+◌, ◌-◌, ◌<◌, ◌≤◌, ◌==◌, Bool, true, false, not, ◌&&◌, ◌||◌, Option, Some, None, List, [], ◌∷◌, ◌++◌, All, length, take, map, slice_get, IsTrue}
+use Rattle.std.specs.Prelude.{◌≡◌, ◌≢◌, ℕ, ◌+◌, ◌-◌, ◌<◌, ◌==◌, Bool, true, false, not, ◌&&◌, ◌||◌, List, [], ◌∷◌, ◌++◌, All, length, map, slice_get, IsTrue}
 use Rattle.std.specs.List.{list_any, list_all}
 use Rattle.std.specs.Option.{option_map_or}
 use Rattle.cnf_core.specs.Clauses.{Clauses}
@@ -13,10 +13,14 @@ use Rattle.derivation.specs.Propagation.{is_true, follows, Follows}
 abbrev pub clauses_of : List Step → List (List ℕ)
 clauses_of steps = map (λ step. step.clause) steps
 
+-- whether each line passes the test over the clauses known before it: the formula's and those of earlier lines
+abbrev pub each_line : (List (List ℕ) → Step → Bool) → List (List ℕ) → List Step → Bool
+each_line test known [] = true
+each_line test known (step ∷ steps) = test known step && each_line test (known ++ step.clause ∷ []) steps
+
 -- whether each line follows from the clauses known before it
 abbrev pub valid : List (List ℕ) → List Step → Bool
-valid known [] = true
-valid known (step ∷ steps) = follows known step && valid (known ++ step.clause ∷ []) steps
+valid known steps = each_line follows known steps
 
 -- Each line follows from the clauses and the lines before it.
 abbrev pub Valid : List (List ℕ) → List Step → Type 0
@@ -49,10 +53,13 @@ Blames clauses steps NoMemory = Unit {0}
 abbrev pub contains_clause : List ℕ → List ℕ → Bool
 contains_clause line clause = list_all (is_true line) clause
 
+-- whether a line is empty, or contains all literals of no known clause
+abbrev pub is_new : List (List ℕ) → Step → Bool
+is_new known step = (length step.clause == 0) || not (list_any (contains_clause step.clause) known)
+
 -- whether no line but an empty one contains all literals of a clause known before it
 abbrev pub fresh : List (List ℕ) → List Step → Bool
-fresh known [] = true
-fresh known (step ∷ steps) = (length step.clause == 0 || not (list_any (contains_clause step.clause) known)) && fresh (known ++ step.clause ∷ []) steps
+fresh known steps = each_line is_new known steps
 
 -- No line but an empty one contains all literals of a clause of the formula or of an earlier line.
 abbrev pub Fresh : List (List ℕ) → List Step → Type 0

@@ -1,5 +1,5 @@
 -- The words of a text: its runs of bytes without white space, where comment lines count as blanks.
-use Rattle.std.specs.Prelude.{ℕ, ◌==◌, suc, Bool, true, false, not, ◌&&◌, ◌||◌, List, [], ◌∷◌, length, if◌then◌else◌}
+use Rattle.std.specs.Prelude.{ℕ, ◌==◌, suc, Bool, false, not, ◌||◌, List, [], ◌∷◌, length, if◌then◌else◌}
 use Rattle.derivation.specs.declared.comment.Spot.{Spot}
 use Rattle.derivation.specs.declared.comment.Spot.TheVariants.{LineStart, Within, Comment}
 

@@ -1,5 +1,5 @@
 -- One word that is expected, and the parts of a text of a formula that are read one after the other.
-use Rattle.std.specs.Prelude.{◌≡◌, ℕ, ◌≤◌, ◌<◌, Bool, true, ◌||◌, ◌&&◌, ◌⊎◌, List, [], ◌∷◌, ◌++◌, All, length, map, codes, IsTrue}
+use Rattle.std.specs.Prelude.{◌≡◌, ℕ, ◌≤◌, Bool, ◌||◌, ◌&&◌, ◌⊎◌, List, [], ◌∷◌, ◌++◌, All, length, map, codes, IsTrue}
 use Rattle.std.specs.List.{list_any, list_all}
 use Rattle.std.specs.Fmt.{decimal}
 use Rattle.cnf_core.specs.Literal.{IsOver}

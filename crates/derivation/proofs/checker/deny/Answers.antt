@@ -1,4 +1,4 @@
-use Rattle.std.proofs.Common.{◌≡◌, ap, sym, ◌∙◌}
+use Rattle.std.proofs.Common.{ap, sym, ◌∙◌}
 use Rattle.derivation.proofs.Once.{apart, once_apart}
 use Rattle.derivation.proofs.checker.deny.Goals as goal
 

@@ -1,4 +1,4 @@
-use Rattle.std.proofs.Common.{◌≡◌, ℕ, List, inl, sym, ap, subst, ◌∙◌}
+use Rattle.std.proofs.Common.{◌≡◌, ℕ, inl, sym, ap, subst, ◌∙◌}
 use Rattle.derivation.specs.CnfText.{IsClosing, IsWrongWord}
 use Rattle.derivation.specs.Runs.{Run, runs, words_of}
 use Rattle.derivation.proofs.Bodies.{header_as, body_as, ends_wrong, ends_right}

@@ -1,4 +1,4 @@
-use Rattle.std.proofs.Common.{◌≡◌, [], ◌∷◌, refl, sym, ap, ◌∙◌}
+use Rattle.std.proofs.Common.{[], ◌∷◌, refl, ap, ◌∙◌}
 use Rattle.std.proofs.lemmas.Result.{err_from_is_err_and}
 use Rattle.derivation.proofs.Headers.{missed, head_first, head_second, head_third, head_fourth}
 use Rattle.derivation.proofs.cnf_reader.header_of.Goals as goal

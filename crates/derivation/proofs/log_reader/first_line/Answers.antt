@@ -1,4 +1,4 @@
-use Rattle.std.proofs.Common.{◌≡◌, sym, ◌∙◌}
+use Rattle.std.proofs.Common.{sym, ◌∙◌}
 use Rattle.derivation.proofs.LineTexts.{front_line, line_made}
 use Rattle.derivation.proofs.log_reader.first_line.Goals as goal
 

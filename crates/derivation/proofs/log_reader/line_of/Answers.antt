@@ -1,4 +1,4 @@
-use Rattle.std.proofs.Common.{◌≡◌, [], ◌∷◌, ◌++◌, map, sym, ◌∙◌}
+use Rattle.std.proofs.Common.{[], ◌∷◌, ◌++◌, map, sym, ◌∙◌}
 use Rattle.std.specs.Fmt.{decimal}
 use Rattle.cnf_core.specs.Literal.{IsOver}
 use Rattle.derivation.specs.Texts.{literal_text}

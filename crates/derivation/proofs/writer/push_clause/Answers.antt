@@ -1,5 +1,4 @@
-use Rattle.std.proofs.Common.{◌≡◌, [], ◌∷◌, ◌++◌, map, sym, ap, ◌∙◌}
-use Rattle.derivation.specs.Texts.{literal_text, spaced}
+use Rattle.std.proofs.Common.{[], ◌∷◌, ◌++◌, ap, ◌∙◌}
 use Rattle.derivation.proofs.Spaced.{clause_line_spaced}
 use Rattle.derivation.proofs.writer.push_clause.Goals as goal
 

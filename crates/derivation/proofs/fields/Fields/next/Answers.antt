@@ -1,4 +1,4 @@
-use Rattle.std.proofs.Common.{◌≡◌, ◌==◌, [], ◌∷◌, cond, sym, ap, ◌∙◌}
+use Rattle.std.proofs.Common.{◌==◌, [], ◌∷◌, cond, sym, ap, ◌∙◌}
 use Rattle.std.specs.List.{slice_split}
 use Rattle.derivation.proofs.CutLemmas.{fields_none, fields_cut}
 use Rattle.derivation.proofs.fields.Fields.next.Goals as goal
