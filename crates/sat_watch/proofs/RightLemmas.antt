@@ -114,12 +114,13 @@ split_up_to from to level (e ∷ es) r = elim (tested (nat_le e.level level)) [
 -- the entries up to a level are the front of all
 pub front_up_to : (to level : ℕ) (entries entries' : List Entry) → Rises 0 (levels entries) to → entries' ≡ up_to level entries → IsFront level entries' entries
 front_up_to to level entries entries' r e =
-  let s : IsSplit level entries = split_up_to 0 to level entries r in
-  subst (λ es. IsFront level es entries) (sym e) (record {
-    rest = s.rest;
-    is = s.is;
-    below = λ k d h. subst (λ n. n ≤ level) (get_or-map (λ (x : Entry). x.level) (up_to level entries) k d 0 h) (s.below k h);
-    above = λ k d h. subst (λ n. level < n) (get_or-map (λ (x : Entry). x.level) s.rest k d 0 h) (s.above k h) })
+    let s : IsSplit level entries = split_up_to 0 to level entries r in
+    subst (λ es. IsFront level es entries) (sym e) (record {
+      rest = s.rest;
+      is = s.is;
+      below = λ k d h. subst (λ n. n ≤ level) (get_or-map (λ (x : Entry). x.level) (up_to level entries) k d 0 h) (s.below k h);
+      above = λ k d h. subst (λ n. level < n) (get_or-map (λ (x : Entry). x.level) s.rest k d 0 h) (s.above k h);
+    })
 
 pub right_back : (w : WatchState) (vars level passed level' passed' : ℕ) (entries entries' : List Entry)
     → Right w (record { vars = vars; entries = entries; level = level; passed = passed }) → Rises 0 (levels entries) level

@@ -30,7 +30,7 @@ returns-clause-right c = λ w r.
 
 pub returns-clause-front : goal.returns-clause-front
 returns-clause-front c =
-  let kept : c.truncate.new.self.items ≡ up_to c.args.level c.self.inside.entries.items =
+    let kept : c.truncate.new.self.items ≡ up_to c.args.level c.self.inside.entries.items =
     c.truncate.ensures.items ∙ subst (λ es. take c.unset_above-kept.result es ≡ up_to c.args.level es) c.deref.ensures.value c.unset_above-kept.ensures.kept in
-  subst (λ t. IsFront c.args.level c.truncate.new.self.items t.entries) c.self.view_is
+    subst (λ t. IsFront c.args.level c.truncate.new.self.items t.entries) c.self.view_is
     (front_up_to c.self.inside.level c.args.level c.self.inside.entries.items c.truncate.new.self.items c.self.invariant.0.sound.rises kept)
