@@ -1,11 +1,11 @@
 -- What stays right of the watches where the trail grows or goes back.
 use Rattle.std.proofs.Common.{◌≡◌, ◌≢◌, ℕ, zero, suc, ◌+◌, ◌-◌, ◌*◌, ◌/◌, ◌<◌, ◌≤◌, true, false, eqb, ltb, List, [], ◌∷◌, ◌++◌, length, get_or, set, refl, sym, ap, ◌∙◌, subst, inl, inr, ◌⊎◌, arith, get_or-set_same, get_or-set_other, length-append}
 use Rattle.std.specs.Prelude.{nat_le, min}
-use Rattle.std.proofs.lemmas.List.{length-map, map-append, length-set, length_push, get_or_append_left, get_or_push, get_or-append_right}
+use Rattle.std.proofs.lemmas.List.{length-map, map-append, length-set, length_push, get_or_append_left, get_or_push, get_or-append_right, get_or-map}
 use Rattle.cnf_core.specs.Literal.{negated}
 use Rattle.sat_watch.specs.declared.trail.Entry.{Entry}
 use Rattle.sat_watch.specs.Literals.{has}
-use Rattle.sat_watch.specs.Trail.{TrailState, literals, levels, up_to, Rises}
+use Rattle.sat_watch.specs.Trail.{TrailState, literals, levels, up_to, IsFront, Rises}
 use Rattle.sat_watch.specs.Watching.{WatchState, twin, clause_of, IsWatch, IsSet, IsTrueBy, IsGuarded, CanPair, Right, RightBut}
 use Rattle.sat_watch.proofs.LiteralLemmas.{tested, equal, unequal, halves, negated-half}
 use Rattle.sat_watch.proofs.WatchLemmas.{twin_even, twin_odd}
@@ -110,6 +110,17 @@ split_up_to from to level (e ∷ es) r = elim (tested (nat_le e.level level)) [
             → (i : ℕ) → i < length (e ∷ es) → level < get_or (levels (e ∷ es)) i 0
         all_above level e es b h zero lt = grind (arith, b)
         all_above level e es b h (suc i) lt = let gt : level < e.level = grind (arith, b) in let le : e.level ≤ get_or (levels es) i 0 = h i (omega arith) in omega arith
+
+-- the entries up to a level are the front of all
+pub front_up_to : (to level : ℕ) (entries entries' : List Entry) → Rises 0 (levels entries) to → entries' ≡ up_to level entries → IsFront level entries' entries
+front_up_to to level entries entries' r e =
+    let s : IsSplit level entries = split_up_to 0 to level entries r in
+    subst (λ es. IsFront level es entries) (sym e) (record {
+      rest = s.rest;
+      is = s.is;
+      below = λ k d h. subst (λ n. n ≤ level) (get_or-map (λ (x : Entry). x.level) (up_to level entries) k d 0 h) (s.below k h);
+      above = λ k d h. subst (λ n. level < n) (get_or-map (λ (x : Entry). x.level) s.rest k d 0 h) (s.above k h);
+    })
 
 pub right_back : (w : WatchState) (vars level passed level' passed' : ℕ) (entries entries' : List Entry)
     → Right w (record { vars = vars; entries = entries; level = level; passed = passed }) → Rises 0 (levels entries) level

@@ -1,5 +1,5 @@
 -- The trail: the literals that were made true, in order, with the level of each and the clause that forced it.
-use Rattle.std.specs.Prelude.{◌≡◌, ℕ, ◌+◌, ◌*◌, ◌<◌, ◌≤◌, ◌^◌, Bool, List, [], ◌∷◌, All, length, map, filter, nat_le}
+use Rattle.std.specs.Prelude.{◌≡◌, ℕ, ◌+◌, ◌*◌, ◌<◌, ◌≤◌, ◌^◌, Bool, List, [], ◌∷◌, ◌++◌, All, length, map, filter, nat_le}
 use Rattle.cnf_core.specs.Literal.{IsOver}
 use Rattle.sat_watch.specs.declared.trail.Entry.{Entry}
 use Rattle.sat_watch.specs.Literals.{AreApart, AreMarks}
@@ -20,6 +20,13 @@ levels entries = map (λ e. e.level) entries
 -- the entries of levels that are not above
 abbrev pub up_to : ℕ → List Entry → List Entry
 up_to level entries = filter (λ e. nat_le e.level level) entries
+
+-- The entries are the front of others: their levels are not above the level, and those of the rest are.
+pub record IsFront (level : ℕ) (front whole : List Entry) : Type 0 where
+  pub rest : List Entry
+  pub is : whole ≡ front ++ rest
+  pub below : All (λ e. e.level ≤ level) front
+  pub above : All (λ e. level < e.level) rest
 
 -- From one level the levels rise by steps of at most 1 to another.
 abbrev pub Rises : ℕ → List ℕ → ℕ → Type 0

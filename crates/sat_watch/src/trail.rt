@@ -1,6 +1,6 @@
 ghost use Rattle.std.specs.Prelude.{◌≡◌, ℕ, ◌+◌, ◌*◌, ◌<◌, ◌≤◌, ◌^◌, Bool, Some, None, [], ◌∷◌, ◌++◌, List, length, take, min, All, IfOk};
 ghost use Rattle.cnf_core.specs.Literal.{IsOver};
-ghost use Rattle.sat_watch.specs.Trail.{literals, levels, up_to, Rises};
+ghost use Rattle.sat_watch.specs.Trail.{literals, levels, up_to, IsFront, Rises};
 ghost use Rattle.sat_watch.specs.Literals.{is_true, value_of, IsOpen, AreApart, AreMarks};
 
 use cnf_core::Lit;
@@ -153,6 +153,7 @@ impl Trail {
     pub fn back_to(&mut self, level: u32)
         requires { level ≤ self.old.level }
         ensures entries { self.new.entries ≡ up_to level self.old.entries }
+        ensures front { IsFront level self.new.entries self.old.entries }
         ensures level { self.new.level ≡ level }
         ensures passed { self.new.passed ≡ min self.old.passed (length self.new.entries) }
         ensures vars { self.new.vars ≡ self.old.vars }

@@ -1,8 +1,8 @@
 use Rattle.std.proofs.Common.{◌≤◌, ◌≡◌, ◌∙◌, subst, sym, ap, arith, take, length, min, length-take-le}
 use Rattle.sat_watch.specs.Watching.{Right}
-use Rattle.sat_watch.proofs.RightLemmas.{right_back}
+use Rattle.sat_watch.proofs.RightLemmas.{right_back, front_up_to}
 use Rattle.sat_watch.specs.Literals.{AreMarks}
-use Rattle.sat_watch.specs.Trail.{literals, up_to}
+use Rattle.sat_watch.specs.Trail.{literals, up_to, IsFront}
 use Rattle.sat_watch.proofs.TrailLemmas.{marked_back}
 use Rattle.sat_watch.proofs.trail.Trail.back_to.Goals as goal
 
@@ -27,3 +27,10 @@ returns-clause-right c = λ w r.
     right_back w c.self.inside.vars c.self.inside.level c.self.inside.passed c.args.level c.min-self-inside.result c.self.inside.entries.items c.truncate.new.self.items
     (subst (Right w) (sym c.self.view_is) r) c.self.invariant.0.sound.rises (subst (λ t. c.args.level ≤ t.level) (sym c.self.view_is) c.requires) kept
     (c.min-self-inside.ensures ∙ ap (min c.self.inside.passed) (sym count))
+
+pub returns-clause-front : goal.returns-clause-front
+returns-clause-front c =
+    let kept : c.truncate.new.self.items ≡ up_to c.args.level c.self.inside.entries.items =
+    c.truncate.ensures.items ∙ subst (λ es. take c.unset_above-kept.result es ≡ up_to c.args.level es) c.deref.ensures.value c.unset_above-kept.ensures.kept in
+    subst (λ t. IsFront c.args.level c.truncate.new.self.items t.entries) c.self.view_is
+    (front_up_to c.self.inside.level c.args.level c.self.inside.entries.items c.truncate.new.self.items c.self.invariant.0.sound.rises kept)
