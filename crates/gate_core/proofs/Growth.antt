@@ -16,6 +16,10 @@ circuit-push nodes node circuit may few = record {
     | inl before ↦ circuit.earlier place a b before
     | inr here ↦ subst (λ p. (a < 2 * p) × (b < 2 * p)) (sym here.0) (may.earlier a b (sym here.1))
   ];
+  free = λ place a b at. elim (slice_get-push nodes node (And a b) place at) [
+    | inl before ↦ circuit.free place a b before
+    | inr here ↦ may.free a b (sym here.1)
+  ];
   once = λ place other a b at there. elim (slice_get-push nodes node (And a b) place at) [
     | inl before ↦ elim (slice_get-push nodes node (And a b) other there) [
       | inl too ↦ circuit.once place other a b before too
