@@ -1,7 +1,7 @@
 -- The gate of a conjunction has its value, and is one.
-use Rattle.std.proofs.Common.{◌≡◌, ℕ, ◌+◌, ◌*◌, ◌/◌, ◌%◌, ◌&&◌, ◌||◌, Bool, true, false, not, List, [], ◌∷◌, ◌++◌, length, get_or, Option, Some, None, ◌⊎◌, refl, sym, subst, ap, ◌∙◌, arith, inl, inr, length-append, min, max}
+use Rattle.std.proofs.Common.{◌≡◌, ◌≢◌, ◌<◌, ℕ, ◌+◌, ◌*◌, ◌/◌, ◌%◌, ◌&&◌, ◌||◌, Bool, true, false, not, List, [], ◌∷◌, ◌++◌, length, get_or, Option, Some, None, ◌⊎◌, refl, sym, subst, ap, ◌∙◌, arith, inl, inr, length-append, min, max}
 use Rattle.std.specs.Prelude.{◌==◌, if◌then◌else◌, MatchOption}
-use Rattle.std.proofs.lemmas.Bool.{cases_eq, cases_lt, eqb-true, eq-eqb}
+use Rattle.std.proofs.lemmas.Bool.{cases_eq, cases_lt, eqb-true, eq-eqb, false≢true}
 use Rattle.std.proofs.lemmas.Option.{slice_get_within, same_Some, none-some}
 use Rattle.gate_core.specs.declared.circuit.Node.{Node}
 use Rattle.gate_core.specs.declared.circuit.Node.TheVariants.{Zero, And}
@@ -231,3 +231,26 @@ value_negated inputs nodes g h is = ap (value inputs nodes) is ∙ value-negatio
 pub value_constant : (inputs : ℕ → Bool) (nodes : List Node) (truth : Bool) (g : ℕ) → IsCircuit nodes → g ≡ (if truth then 1 else 0) → value inputs nodes g ≡ truth
 value_constant inputs nodes true g circuit is = ap (value inputs nodes) is ∙ value-negation inputs nodes 0 ∙ ap not (value_zero inputs nodes circuit)
 value_constant inputs nodes false g circuit is = ap (value inputs nodes) is ∙ value_zero inputs nodes circuit
+
+-- gates whose conjunction needs a node are no constants
+free_by : (a b : ℕ) (p q r s t u : Bool) → (p ≡ false → a ≢ 0) → (q ≡ false → b ≢ 0) → (s ≡ false → a ≢ 1) → (u ≡ false → b ≢ 1)
+    → None ≡ (if p || q || r then Some 0 else (if s || t then Some b else (if u then Some a else None))) → (1 < a) × (1 < b)
+free_by a b true q r s t u hp hq hs hu is = absurd (none-some 0 is)
+free_by a b false true r s t u hp hq hs hu is = absurd (none-some 0 is)
+free_by a b false false true s t u hp hq hs hu is = absurd (none-some 0 is)
+free_by a b false false false true t u hp hq hs hu is = absurd (none-some b is)
+free_by a b false false false false true u hp hq hs hu is = absurd (none-some b is)
+free_by a b false false false false false true hp hq hs hu is = absurd (none-some a is)
+free_by a b false false false false false false hp hq hs hu is =
+    let a0 = hp refl in
+    let b0 = hq refl in
+    let a1 = hs refl in
+    let b1 = hu refl in
+    (omega arith, omega arith)
+
+not_same : (a b : ℕ) → (a == b) ≡ false → a ≢ b
+not_same a b e same = false≢true (sym e ∙ eq-eqb a b same)
+
+pub free_sides : (a b : ℕ) → None ≡ simplified a b → (1 < a) × (1 < b)
+free_sides a b is =
+    free_by a b (a == 0) (b == 0) (a == negation b) (a == 1) (a == b) (b == 1) (not_same a 0) (not_same b 0) (not_same a 1) (not_same b 1) is

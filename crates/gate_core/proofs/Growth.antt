@@ -12,9 +12,17 @@ use Rattle.gate_core.proofs.Places.{slice_get-append, slice_get-append_left, sli
 pub circuit-push : (nodes : List Node) (node : Node) → IsCircuit nodes → MayFollow nodes node → length nodes < 2 ^ 31 → IsCircuit (nodes ++ node ∷ [])
 circuit-push nodes node circuit may few = record {
   first = slice_get-append nodes (node ∷ []) 0 Zero circuit.first;
+  only = λ place at. elim (slice_get-push nodes node Zero place at) [
+    | inl before ↦ circuit.only place before
+    | inr here ↦ absurd (may.no_constant (sym here.1))
+  ];
   earlier = λ place a b at. elim (slice_get-push nodes node (And a b) place at) [
     | inl before ↦ circuit.earlier place a b before
     | inr here ↦ subst (λ p. (a < 2 * p) × (b < 2 * p)) (sym here.0) (may.earlier a b (sym here.1))
+  ];
+  free = λ place a b at. elim (slice_get-push nodes node (And a b) place at) [
+    | inl before ↦ circuit.free place a b before
+    | inr here ↦ may.free a b (sym here.1)
   ];
   once = λ place other a b at there. elim (slice_get-push nodes node (And a b) place at) [
     | inl before ↦ elim (slice_get-push nodes node (And a b) other there) [

@@ -64,16 +64,22 @@ abbrev pub IsConjunction : List Node → ℕ → ℕ → ℕ → Type 0
 IsConjunction nodes a b gate =
     MatchOption (simplified a b) ((place : ℕ) × (gate ≡ 2 * place) × StandsAt nodes (conjunction a b) place) (λ known. gate ≡ known)
 
--- what every circuit keeps: node 0 is the constant, a conjunction is of gates before it, and no conjunction stands twice
+-- what every circuit keeps: node 0 alone is the constant, a conjunction is of gates before it that are no constants, and no
+-- conjunction stands twice
 pub record IsCircuit (nodes : List Node) : Type 0 where
   pub first : StandsAt nodes Zero 0
+  pub only : (place : ℕ) → StandsAt nodes Zero place → place ≡ 0
   pub earlier : (place a b : ℕ) → StandsAt nodes (And a b) place → (a < 2 * place) × (b < 2 * place)
+  pub free : (place a b : ℕ) → StandsAt nodes (And a b) place → (1 < a) × (1 < b)
   pub once : (place other a b : ℕ) → StandsAt nodes (And a b) place → StandsAt nodes (And a b) other → place ≡ other
   pub few : length nodes ≤ 2 ^ 31
 
--- the node may be put behind these: a conjunction is of gates of theirs, and does not stand among them
+-- the node may be put behind these: a conjunction is of gates of theirs that are no constants, and does not stand among
+-- them
 pub record MayFollow (nodes : List Node) (node : Node) : Type 0 where
+  pub no_constant : node ≡ Zero → ⊥
   pub earlier : (a b : ℕ) → node ≡ And a b → (a < 2 * length nodes) × (b < 2 * length nodes)
+  pub free : (a b : ℕ) → node ≡ And a b → (1 < a) × (1 < b)
   pub new : (a b : ℕ) → node ≡ And a b → (place : ℕ) → StandsAt nodes (And a b) place → ⊥
 
 -- the circuit stays, or the node, which stood nowhere, is put behind it

@@ -48,6 +48,8 @@ fn conjoin(
     requires arena { IsArena cells.old.items heads.old.items }
     requires first { IsOf (nodes_of cells.old.items) first }
     requires second { IsOf (nodes_of cells.old.items) second }
+    requires first_free { 1 < first }
+    requires second_free { 1 < second }
     ensures stands { IfOk result (λ place. StandsAt (nodes_of cells.new.items) (And first second) place × (place < 2 ^ 31)) }
     ensures ok { OnOk result (PutsOnce (nodes_of cells.old.items) (nodes_of cells.new.items) (And first second)) }
     ensures err { OnErr result (nodes_of cells.new.items ≡ nodes_of cells.old.items) }
@@ -60,6 +62,7 @@ fn conjoin(
 }
 
 /// The gate of the conjunction of two gates of the circuit.
+#[tactic(auto, using(crate::proofs::Conjunctions::free_sides))]
 pub(crate) fn join(
     alloc: Global,
     cells: &mut Vec<Cell>,
