@@ -1,0 +1,3 @@
+pub mod Plain
+pub mod Truth
+pub mod Trial

@@ -1,0 +1,4 @@
+//! The trial of plain methods: every list of arguments is tried.
+#![tactic(auto)]
+
+mod truth;
