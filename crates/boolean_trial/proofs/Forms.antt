@@ -1,5 +1,5 @@
 -- One equation for each form: whether it is plain, and what it says.
-use Rattle.std.proofs.Common.{◌≡◌, ℕ, Bool, true, false, List, Option, refl}
+use Rattle.std.proofs.Common.{◌≡◌, ℕ, Bool, true, false, List, refl}
 use Rattle.std.specs.Prelude.{ℤ, ◌&&◌, not, nat_lt, slice_get, unwrap_or}
 use Rattle.taco_unit.specs.declared.expr.Op.{Op}
 use Rattle.taco_unit.specs.declared.expr.Expr.{Expr, fold_out-Expr}

@@ -1,7 +1,7 @@
 -- A plain expression evaluates to what it says, in a clause and in code.
-use Rattle.std.proofs.Common.{◌≡◌, ℕ, Bool, true, false, ◌<◌, zero, suc, List, [], ◌∷◌, length, map, Option, Some, None, refl, sym, ap, arith, ◌∙◌, subst}
+use Rattle.std.proofs.Common.{◌≡◌, ℕ, Bool, true, false, ◌<◌, zero, suc, List, [], ◌∷◌, length, map, Some, refl, sym, ap, arith, ◌∙◌, subst}
 use borrow.Author.Tests.{ltb-true}
-use Rattle.std.specs.Prelude.{ℤ, ◌&&◌, not, nat_lt, slice_get, unwrap_or}
+use Rattle.std.specs.Prelude.{◌&&◌, nat_lt, slice_get, unwrap_or}
 use Rattle.taco_unit.specs.declared.expr.Op.{Op}
 use Rattle.taco_unit.specs.declared.expr.Op.TheVariants as op
 use Rattle.taco_unit.specs.declared.expr.Expr.{Expr, ind-Expr, roll-Expr, map-Expr}
@@ -11,7 +11,6 @@ use Rattle.taco_unit.specs.declared.expr.Reach.{Reach}
 use Rattle.taco_unit.specs.declared.expr.Call.{Call}
 use Rattle.taco_unit.specs.declared.expr.Expr.TheVariants as e
 use Rattle.taco_unit.specs.Kinds.{Form, Code as InCode}
-use Rattle.heap_core.specs.declared.value.Value.{Value}
 use Rattle.heap_core.specs.declared.value.Value.TheVariants.{Flag}
 use Rattle.heap_core.specs.Posed.{Posed}
 use Rattle.heap_core.specs.Outcomes.{flag}
@@ -21,7 +20,7 @@ use Rattle.heap_core.proofs.EvalForms.{eval_flag, eval_local, eval_result, eval_
 use Rattle.heap_core.proofs.ExecForms.{code_flag, code_local, code_not, code_bin}
 use Rattle.boolean_trial.specs.Plain.{is_plain, is_logical, has_result}
 use Rattle.boolean_trial.specs.Truth.{truth_of, joined}
-use Rattle.boolean_trial.proofs.Forms.{plain_num, plain_flag, plain_null, plain_this, plain_result, plain_local, plain_bound, plain_read, plain_neg, plain_not, plain_bin, plain_quant, plain_old, plain_has, plain_size, plain_new, plain_call, truth_flag, truth_local, truth_result, truth_not, truth_bin}
+use Rattle.boolean_trial.proofs.Forms.{plain_num, plain_null, plain_this, plain_result, plain_local, plain_bound, plain_read, plain_neg, plain_not, plain_bin, plain_quant, plain_old, plain_has, plain_size, plain_new, plain_call, truth_flag, truth_local, truth_result, truth_not, truth_bin}
 
 -- an environment with these arguments, and with this result where it may stand
 pub record Sees (args : List Bool) (r : Bool) (form : Form) (env : Env) : Type 0 where
@@ -59,19 +58,19 @@ local_says : (i : ℕ) → Says (e.Local i)
 local_says i =
     record {
       clause = λ args r form plain env sees.
-        let within : nat_lt i (length args) ≡ true = sym (plain_local i (length args) form) ∙ plain in
-        rw (eval_local i env, truth_local i args r, sees.locals, argument_at args i (ltb-true i (length args) within)) refl;
+          let within : nat_lt i (length args) ≡ true = sym (plain_local i (length args) form) ∙ plain in
+          rw (eval_local i env, truth_local i args r, sees.locals, argument_at args i (ltb-true i (length args) within)) refl;
       code_too = λ args r plain p run fr m locals.
-        let within : nat_lt i (length args) ≡ true = sym (plain_local i (length args) InCode) ∙ plain in
-        rw (code_local p run i fr m, truth_local i args r, locals, argument_at args i (ltb-true i (length args) within)) refl;
+          let within : nat_lt i (length args) ≡ true = sym (plain_local i (length args) InCode) ∙ plain in
+          rw (code_local p run i fr m, truth_local i args r, locals, argument_at args i (ltb-true i (length args) within)) refl;
     }
 
 result_says : Says e.Result
 result_says =
     record {
       clause = λ args r form plain env sees.
-        let there : has_result form ≡ true = sym (plain_result (length args) form) ∙ plain in
-        rw (eval_result env, truth_result args r, sees.result there) refl;
+          let there : has_result form ≡ true = sym (plain_result (length args) form) ∙ plain in
+          rw (eval_result env, truth_result args r, sees.result there) refl;
       code_too = λ args r plain p run fr m locals. absurd (let no_plain = plain_result (length args) InCode in cc);
     }
 
@@ -79,11 +78,11 @@ not_says : (a : Expr) → Says a → Says (e.Not a)
 not_says a says =
     record {
       clause = λ args r form plain env sees.
-        let inner : is_plain a (length args) form ≡ true = sym (plain_not a (length args) form) ∙ plain in
-        rw (eval_not a env, truth_not a args r, says.clause args r form inner env sees) refl;
+          let inner : is_plain a (length args) form ≡ true = sym (plain_not a (length args) form) ∙ plain in
+          rw (eval_not a env, truth_not a args r, says.clause args r form inner env sees) refl;
       code_too = λ args r plain p run fr m locals.
-        let inner : is_plain a (length args) InCode ≡ true = sym (plain_not a (length args) InCode) ∙ plain in
-        rw (code_not p run a fr m, truth_not a args r, says.code_too args r inner p run fr m locals) refl;
+          let inner : is_plain a (length args) InCode ≡ true = sym (plain_not a (length args) InCode) ∙ plain in
+          rw (code_not p run a fr m, truth_not a args r, says.code_too args r inner p run fr m locals) refl;
     }
 
 -- a logical operator on truth values, in a clause
@@ -140,14 +139,14 @@ bin_says : (o : Op) (a b : Expr) → Says a → Says b → Says (e.Bin o a b)
 bin_says o a b left right =
     record {
       clause = λ args r form plain env sees.
-        let parts = all_three (is_logical form o) (is_plain a (length args) form) (is_plain b (length args) form) (sym (plain_bin o a b (length args) form) ∙ plain) in
-        rw (eval_bin o a b env, truth_bin o a b args r, left.clause args r form parts.second env sees, right.clause args r form parts.third env sees)
-        (flags_joined form o env.ints (truth_of a args r) (truth_of b args r) parts.first);
+          let parts = all_three (is_logical form o) (is_plain a (length args) form) (is_plain b (length args) form) (sym (plain_bin o a b (length args) form) ∙ plain) in
+          rw (eval_bin o a b env, truth_bin o a b args r, left.clause args r form parts.second env sees, right.clause args r form parts.third env sees)
+          (flags_joined form o env.ints (truth_of a args r) (truth_of b args r) parts.first);
       code_too = λ args r plain p run fr m locals.
-        let parts = all_three (is_logical InCode o) (is_plain a (length args) InCode) (is_plain b (length args) InCode) (sym (plain_bin o a b (length args) InCode) ∙ plain) in
-        rw (code_bin p run o a b fr m, truth_bin o a b args r)
-        (values_joined o p.scope.ints (code p run a) (code p run b) fr m (truth_of a args r) (truth_of b args r) parts.first (left.code_too args r parts.second p run fr m locals)
-        (right.code_too args r parts.third p run fr m locals));
+          let parts = all_three (is_logical InCode o) (is_plain a (length args) InCode) (is_plain b (length args) InCode) (sym (plain_bin o a b (length args) InCode) ∙ plain) in
+          rw (code_bin p run o a b fr m, truth_bin o a b args r)
+          (values_joined o p.scope.ints (code p run a) (code p run b) fr m (truth_of a args r) (truth_of b args r) parts.first (left.code_too args r parts.second p run fr m locals)
+          (right.code_too args r parts.third p run fr m locals));
     }
 
 -- one layer

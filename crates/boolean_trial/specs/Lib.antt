@@ -1,3 +1,4 @@
 pub mod Plain
 pub mod Truth
 pub mod Trial
+pub mod Found

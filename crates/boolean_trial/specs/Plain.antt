@@ -1,7 +1,6 @@
 -- Plain methods: static, over truth values alone, with one `return` as the body.
-use Rattle.std.specs.Prelude.{◌≡◌, ℕ, nat_lt, ◌&&◌, Bool, true, false, List, [], length, map, slice_get, Option, Some, None, option_map, IsTrue}
+use Rattle.std.specs.Prelude.{◌≡◌, ℕ, nat_lt, ◌&&◌, Bool, true, false, List, [], length, map, slice_get, Some, option_map}
 use Rattle.std.specs.List.{list_all}
-use Rattle.taco_unit.specs.declared.kind.Kind.{Kind}
 use Rattle.taco_unit.specs.declared.kind.Kind.TheVariants as kind
 use Rattle.taco_unit.specs.declared.expr.Op.{Op}
 use Rattle.taco_unit.specs.declared.expr.Op.TheVariants as op
@@ -9,7 +8,6 @@ use Rattle.taco_unit.specs.declared.expr.Expr.{Expr, fold-Expr}
 use Rattle.taco_unit.specs.declared.expr.Expr.TheOpen.{Expr-F}
 use Rattle.taco_unit.specs.declared.stmt.Stmt.TheVariants as s
 use Rattle.taco_unit.specs.declared.unit.Clause.{Clause}
-use Rattle.taco_unit.specs.declared.unit.ClassDef.{ClassDef}
 use Rattle.taco_unit.specs.declared.unit.MethodDef.{MethodDef}
 use Rattle.taco_unit.specs.Kinds.{Form, Code, Entry, Exit, same_kind}
 use Rattle.taco_unit.specs.Parts.{Parts}
@@ -56,7 +54,7 @@ are_plain count form = list_all (λ c. is_plain c.expr count form)
 pub record IsPlainMethod (m : MethodDef) : Type 0 where
   pub value : Expr
   pub fixed : m.fixed ≡ true
-  pub params : IsTrue (list_all (λ p. same_kind p.kind kind.Flag) m.params)
+  pub params : list_all (λ p. same_kind p.kind kind.Flag) m.params ≡ true
   pub result : option_map (λ r. r.0) m.result ≡ Some kind.Flag
   pub no_locals : m.locals ≡ []
   pub body : m.body ≡ s.Return (Some value)

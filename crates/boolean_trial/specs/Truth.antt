@@ -1,5 +1,5 @@
 -- What plain expressions say.
-use Rattle.std.specs.Prelude.{ℕ, ◌&&◌, ◌||◌, not, Bool, true, false, List, slice_get, Option, unwrap_or}
+use Rattle.std.specs.Prelude.{◌&&◌, ◌||◌, not, Bool, false, List, slice_get, unwrap_or}
 use Rattle.taco_unit.specs.declared.expr.Op.{Op}
 use Rattle.taco_unit.specs.declared.expr.Op.TheVariants as op
 use Rattle.taco_unit.specs.declared.expr.Expr.{Expr, fold-Expr}
