@@ -1,2 +1,5 @@
 pub mod First
+pub mod Good
+pub mod GoodHeader
 pub mod Shapes
+pub mod Well

@@ -1,6 +1,7 @@
 -- Lists of tokens by their lengths.
 use Rattle.std.proofs.Common.{◌≡◌, ◌≢◌, ℕ, ◌<◌, ◌≤◌, ◌+◌, Bool, true, false, List, [], ◌∷◌, ◌++◌, length, map, take, drop, Option, None, Some, option_map, option_and_then, refl, sym, ap, ◌∙◌, arith, append_assoc, length-drop, if◌then◌else◌}
 use Rattle.std.proofs.lemmas.List.{drop-drop, drop-map}
+use Rattle.std.proofs.lemmas.Option.{slice_get-map}
 use Rattle.std.specs.List.{take-map}
 use Rattle.thin_reader.specs.Tokens.{Text}
 use Rattle.thin_reader.specs.Headers.{Params, with_param, class_of, method_name_of, param_of, params_from, some_params, is_close, params_of, header_behind, header_of}
@@ -88,3 +89,6 @@ header_of_short f (a ∷ b ∷ c ∷ d ∷ ts) few = absurd (omega arith)
 pub header_of_at : {A : Type 0} (f : A → Text) (ts front behind : List A) → front ≡ take 4 ts → behind ≡ drop 4 ts
     → header_of (map f ts) ≡ option_and_then (λ name. header_behind name (params_of (map f behind))) (method_name_of (map f front))
 header_of_at f ts front behind is_front is_behind = rw (is_front, is_behind, ← take-map f 4 ts, ← drop-map f 4 ts) refl
+
+-- what stands at a place, behind or in front of one, of a list that was mapped
+pub ruleset maps = (slice_get-map, drop-map, take-map)

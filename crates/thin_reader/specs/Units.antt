@@ -48,17 +48,17 @@ abbrev pub are_few : Clauses → Bool
 are_few clauses = nat_le (length clauses.needs) 255 && nat_le (length clauses.gives) 255
 
 -- of a class and a method, and of the lines between theirs
-abbrev pub unit_between : List Text → Option Text → Option Header → Option Parts
-unit_between lines (Some class) (Some header) =
+abbrev pub between : List Text → Option Text → Option Header → Option Parts
+between lines (Some class) (Some header) =
     option_and_then (λ clauses. if are_few clauses then Some (parts_of class header clauses) else None) (clauses_of header.params lines)
-unit_between lines _ _ = None
+between lines _ _ = None
 
 -- the first line is the class's, the last one `}`, the one before it the method's, and those between are
 -- clauses
 abbrev pub unit_of_lines : List Text → Option Parts
 unit_of_lines lines =
     let count = length lines in
-    if nat_le 3 count && is_end (line_tokens lines (count - 1)) then unit_between (drop 1 (take (count - 2) lines)) (class_of (line_tokens lines 0)) (header_of (line_tokens lines (count - 2)))
+    if nat_le 3 count && is_end (line_tokens lines (count - 1)) then between (drop 1 (take (count - 2) lines)) (class_of (line_tokens lines 0)) (header_of (line_tokens lines (count - 2)))
     else None
 
 -- the unit of a text; None where the text is not of this form

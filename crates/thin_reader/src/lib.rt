@@ -6,5 +6,8 @@ mod clauses;
 mod headers;
 mod lines;
 mod names;
+mod read;
 mod tokens;
 mod values;
+
+pub use read::read_unit;
