@@ -14,23 +14,9 @@ use Rattle.boolean_trial.specs.Plain.{is_plain}
 use Rattle.boolean_trial.proofs.Forms.{plain_flag, plain_local, plain_result, plain_bin}
 use Rattle.thin_reader.specs.declared.clauses.Clauses.{Clauses}
 use Rattle.thin_reader.specs.Tokens.{Text, tokens_of}
+use Rattle.thin_reader.specs.Good.{flags, Stands, Good, AllGood, none_left, one_more, GoodClauses}
 use Rattle.thin_reader.specs.Values.{single_of, compared_of}
 use Rattle.thin_reader.specs.Clauses.{keyword_of, single_clause_of, compared_clause_of, clause_of, with_clause, clauses_of}
-
--- the kinds of so many parameters
-abbrev pub flags : List Text → List Kind
-flags params = map (λ name. kind.Flag) params
-
--- what is known around a value of this form
-pub record Stands (params : List Text) (form : Form) (k : Around) : Type 0 where
-  pub form_is : k.form ≡ form
-  pub locals : k.locals ≡ flags params
-  pub result : form ≡ Exit → k.result ≡ Some kind.Flag
-
--- a plain condition
-pub record Good (params : List Text) (form : Form) (a : Expr) : Type 0 where
-  pub sort : (k : Around) → Stands params form k → sort_of a k ≡ Of kind.Flag
-  pub plain : is_plain a (length params) form ≡ true
 
 flag_good : (params : List Text) (form : Form) (b : Bool) → Good params form (e.Flag b)
 flag_good params form b = record { sort = λ k stands. sort_flag b k; plain = plain_flag b (length params) form }
@@ -113,15 +99,6 @@ form_of false = Entry
 exit_is : (k : Bool) → k ≡ true → form_of k ≡ Exit
 exit_is true is = refl
 exit_is false is = absurd (cc)
-
--- all of these clauses are good
-pub data AllGood (params : List Text) (form : Form) : List Clause → Type 0 where
-  none_left : AllGood params form []
-  one_more : (c : Clause) (cs : List Clause) → Good params form c.expr → AllGood params form cs → AllGood params form (c ∷ cs)
-
-pub record GoodClauses (params : List Text) (clauses : Clauses) : Type 0 where
-  pub needs : AllGood params Entry clauses.needs
-  pub gives : AllGood params Exit clauses.gives
 
 -- of a keyword and a value
 keyed_good : (params : List Text) (keyword : Option Bool) (value : Bool → Option Expr) (c : Bool × Expr) → ((k : Bool) (a : Expr) → value k ≡ Some a → Good params (form_of k) a)

@@ -10,7 +10,8 @@ use Rattle.thin_reader.specs.Tokens.{Text}
 use Rattle.thin_reader.specs.Names.{is_name, is_distinct}
 use Rattle.thin_reader.specs.Values.{single_of, compared_of}
 use Rattle.thin_reader.specs.Headers.{Params, with_param, class_of, last_of, param_of, params_from, some_params, is_close, params_of, are_around, returned_of, are_around_name, method_name_of, header_behind, header_of}
-use Rattle.thin_reader.proofs.Good.{Good, single_good, compared_good}
+use Rattle.thin_reader.specs.Good.{Good, GoodHeader}
+use Rattle.thin_reader.proofs.Good.{single_good, compared_good}
 
 pub record Both (a b : Bool) : Type 0 where
   pub first : a ≡ true
@@ -120,14 +121,6 @@ returned_good params (a ∷ b ∷ c ∷ d ∷ f ∷ g ∷ []) value is = absurd 
 returned_good params (brace ∷ word ∷ left ∷ sign ∷ right ∷ end ∷ close ∷ []) value is =
     returned_by params (are_around brace word end close) (compared_of params false left sign right) value (compared_good params Code false left sign right value (λ h. absurd (cc))) is
 returned_good params (a ∷ b ∷ c ∷ d ∷ f ∷ g ∷ h ∷ i ∷ more) value is = absurd (cc)
-
--- a method whose names are words, whose parameters differ, and whose value is plain
-pub record GoodHeader (h : Header) : Type 0 where
-  pub name : is_word h.name ≡ true
-  pub params : list_all is_word h.params ≡ true
-  pub few : nat_le (length h.params) 8 ≡ true
-  pub distinct : is_distinct h.params ≡ true
-  pub value : Good h.params Code h.value
 
 behind_good : (name : Text) (found : Option Params) (h : Header) → is_word name ≡ true → ((q : Params) → found ≡ Some q → AreWords q) → header_behind name found ≡ Some h → GoodHeader h
 behind_good name None h word words is = absurd (cc)

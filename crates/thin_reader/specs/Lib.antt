@@ -5,4 +5,4 @@ pub mod Values
 pub mod Clauses
 pub mod Headers
 pub mod Units
-pub mod Read
+pub mod Good

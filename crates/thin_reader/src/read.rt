@@ -1,6 +1,7 @@
 ghost use Rattle.std.specs.Prelude.{◌≡◌, ℕ, ◌≤◌, ◌-◌, true, length, map, take, drop, Some, IfOk, IfSome};
 ghost use Rattle.boolean_trial.specs.Plain.{IsPlain};
-ghost use Rattle.thin_reader.specs.Read.{ClassRead, HeaderRead, ClausesRead};
+ghost use Rattle.thin_reader.specs.Good.{GoodParts};
+ghost use Rattle.thin_reader.specs.Headers.{class_of, header_of};
 ghost use Rattle.thin_reader.specs.Units.{param_of, parts_of, are_few, line_tokens, is_end as is_end_lem, between, unit_of_lines, unit_of};
 
 use crate::clauses::{Clauses, read_clauses};
@@ -61,10 +62,7 @@ fn make_unit(
     header: Header,
     clauses: Clauses,
 ) -> Result<Unit, NoMemory>
-    requires class { ClassRead class }
-    requires header { HeaderRead header }
-    requires clauses { ClausesRead header.params clauses }
-    requires few { are_few clauses ≡ true }
+    requires { GoodParts class header clauses }
     ensures made { IfOk result (λ unit. unit ≡ parts_of class header clauses) }
     ensures plain { IfOk result (λ unit. IsPlain unit 0) }
 {
@@ -110,31 +108,6 @@ fn are_few_clauses(clauses: &Clauses) -> bool
     clauses.needs.len() <= 255 && clauses.gives.len() <= 255
 }
 
-/// The unit of a class and a method, and of the lines of clauses between theirs.
-fn unit_between(
-    alloc: Global,
-    class: Name,
-    header: Header,
-    lines: &[&[u8]],
-) -> Result<Option<Unit>, NoMemory>
-    requires class { ClassRead class }
-    requires header { HeaderRead header }
-    requires few { length header.params ≤ 8 }
-    ensures made { IfOk result (λ found. found ≡ between (map (λ l. l.now) lines.now) (Some class) (Some header)) }
-    ensures plain { IfOk result (λ found. IfSome found (λ unit. IsPlain unit 0)) }
-{
-    match read_clauses(alloc, header.params.as_slice(), lines)? {
-        Some(clauses) => {
-            if are_few_clauses(&clauses) {
-                Ok(Some(make_unit(alloc, class, header, clauses)?))
-            } else {
-                Ok(None)
-            }
-        }
-        None => Ok(None),
-    }
-}
-
 /// The lines between the first one and the last two, of at least three.
 #[tactic(auto, using(crate::proofs::Shapes::maps))]
 fn lines_between<'t, 'l>(lines: &'l [&'t [u8]]) -> &'l [&'t [u8]]
@@ -146,7 +119,57 @@ fn lines_between<'t, 'l>(lines: &'l [&'t [u8]]) -> &'l [&'t [u8]]
     between
 }
 
+/// The unit of a class and a method, and of the lines of clauses between theirs.
+fn unit_between(
+    alloc: Global,
+    class: Name,
+    header: Header,
+    lines: &[&[u8]],
+) -> Result<Option<Unit>, NoMemory>
+    requires many { 3 ≤ length lines.now }
+    requires class { class_of (line_tokens (map (λ l. l.now) lines.now) 0) ≡ Some class }
+    requires header { header_of (line_tokens (map (λ l. l.now) lines.now) (length lines.now - 2)) ≡ Some header }
+    ensures made { IfOk result (λ found. found ≡ between (drop 1 (take (length lines.now - 2) (map (λ l. l.now) lines.now))) (Some class) (Some header)) }
+    ensures plain { IfOk result (λ found. IfSome found (λ unit. IsPlain unit 0)) }
+{
+    match read_clauses(alloc, header.params.as_slice(), lines_between(lines))? {
+        Some(clauses) => {
+            if are_few_clauses(&clauses) {
+                Ok(Some(make_unit(alloc, class, header, clauses)?))
+            } else {
+                Ok(None)
+            }
+        }
+        None => Ok(None),
+    }
+}
+
+/// The class of the first line.
+fn class_at(alloc: Global, lines: &[&[u8]]) -> Result<Option<Name>, NoMemory>
+    ensures { IfOk result (λ found. found ≡ class_of (line_tokens (map (λ l. l.now) lines.now) 0)) }
+{
+    let tokens = tokens_at(alloc, lines, 0)?;
+    class_name(alloc, &tokens)
+}
+
+/// The method of the line of this number, counted from 0.
+fn header_at(alloc: Global, lines: &[&[u8]], at: usize) -> Result<Option<Header>, NoMemory>
+    ensures { IfOk result (λ found. found ≡ header_of (line_tokens (map (λ l. l.now) lines.now) at)) }
+{
+    let tokens = tokens_at(alloc, lines, at)?;
+    read_header(alloc, &tokens)
+}
+
+/// Whether the line of this number, counted from 0, is `}`.
+fn ends_at(alloc: Global, lines: &[&[u8]], at: usize) -> Result<bool, NoMemory>
+    ensures { IfOk result (λ ends. ends ≡ is_end_lem (line_tokens (map (λ l. l.now) lines.now) at)) }
+{
+    let tokens = tokens_at(alloc, lines, at)?;
+    Ok(is_end(&tokens))
+}
+
 /// The unit of these lines.
+#[tactic(auto, using(crate::proofs::Units::too_few, crate::proofs::Units::no_end, crate::proofs::Units::unit_at))]
 fn unit_of_all(alloc: Global, lines: &[&[u8]]) -> Result<Option<Unit>, NoMemory>
     ensures made { IfOk result (λ found. found ≡ unit_of_lines (map (λ l. l.now) lines.now)) }
     ensures plain { IfOk result (λ found. IfSome found (λ unit. IsPlain unit 0)) }
@@ -155,17 +178,17 @@ fn unit_of_all(alloc: Global, lines: &[&[u8]]) -> Result<Option<Unit>, NoMemory>
     if count < 3 {
         return Ok(None);
     }
-    let last = tokens_at(alloc, lines, count - 1)?;
-    if !is_end(&last) {
+    if !ends_at(alloc, lines, count - 1)? {
         return Ok(None);
     }
-    let first = tokens_at(alloc, lines, 0)?;
-    let Some(class) = class_name(alloc, &first)? else {
+    let Some(class) = class_at(alloc, lines)? else {
         return Ok(None);
     };
-    let method = tokens_at(alloc, lines, count - 2)?;
-    match read_header(alloc, &method)? {
-        Some(header) => unit_between(alloc, class, header, lines_between(lines)),
+    let Some(header) = header_at(alloc, lines, count - 2)? else {
+        return Ok(None);
+    };
+    match unit_between(alloc, class, header, lines)? {
+        Some(unit) => Ok(Some(unit)),
         None => Ok(None),
     }
 }

@@ -1,0 +1,116 @@
+-- What a call of `run` does.
+--
+-- It speaks of the content that the files tell of the file that is asked about, of the bytes that the
+-- sink tells, and of the status. Want of memory is the one free answer.
+use Rattle.std.specs.Prelude.{◌≡◌, ◌≢◌, ℕ, ◌<◌, ◌≤◌, List, [], length, take, Option, Some, None, IfSome, codes}
+use Rattle.std.specs.Io.KnownBytes.{Appends}
+use Rattle.taco_unit.specs.Parts.{Parts}
+use Rattle.taco_unit.specs.Named.{class_number, method_number}
+use Rattle.heap_core.specs.declared.start.Start.{Start}
+use Rattle.heap_core.specs.declared.judged.Part.{Part}
+use Rattle.heap_core.specs.Posed.{Posed}
+use Rattle.heap_core.specs.Judge.{Violates, Violable}
+use Rattle.taco_io.specs.Counts.{Rose}
+use Rattle.taco_io.specs.Shelf.{Shelf, Stays, IsCalm, NameRose}
+use Rattle.taco_io.specs.Taken.{Taken}
+use Rattle.thin_reader.specs.Units.{Reads}
+use Rattle.taco_run.specs.declared.answer.Status.{Status}
+use Rattle.taco_run.specs.declared.answer.Status.TheVariants as status
+use Rattle.taco_run.specs.declared.request.Job.{Job}
+use Rattle.taco_run.specs.declared.request.Request.{Request}
+use Rattle.taco_run.specs.declared.request.Request.TheVariants as request
+use Rattle.taco_run.specs.Texts.{line, no_tuples, holds_report, violated_report}
+
+-- the most bytes of a Java text
+abbrev pub java_limit : ℕ
+java_limit = 262144
+
+-- the class and the method of these names are in the unit, and have these numbers
+pub record Names (u : Parts) (job : Job) (class method : ℕ) : Type 0 where
+  pub the_class : class_number u job.class ≡ Some class
+  pub the_method : method_number u class job.method ≡ Some method
+
+-- the bytes are the text of a unit that has the method, and this is the problem
+pub record IsPosed (bytes : List ℕ) (job : Job) (p : Posed) : Type 0 where
+  pub class : ℕ
+  pub short : length bytes ≤ java_limit
+  pub reads : Reads bytes p.unit
+  pub names : Names p.unit job class p.method
+  pub scope : p.scope ≡ job.scope
+
+-- the method that is asked about holds
+pub record Holding (bytes : List ℕ) (job : Job) : Type 0 where
+  pub problem : Posed
+  pub posed : IsPosed bytes job problem
+  pub not_violable : Violable problem → ⊥
+
+-- the bytes are the text of a unit that lacks the class, or whose class lacks the method
+pub record LacksMethod (bytes : List ℕ) (job : Job) : Type 0 where
+  pub unit : Parts
+  pub short : length bytes ≤ java_limit
+  pub reads : Reads bytes unit
+  pub lacks : (class method : ℕ) → Names unit job class method → ⊥
+
+-- the bytes are no text of the form that is read
+pub record IsNoText (bytes : List ℕ) : Type 0 where
+  pub short : length bytes ≤ java_limit
+  pub none : (u : Parts) → Reads bytes u → ⊥
+
+-- the output tells a start that fits, and a part that breaks from it
+pub record TellsBreach (told : Option (List ℕ)) (job : Job) (output : List ℕ) : Type 0 where
+  pub problem : Posed
+  pub start : Start
+  pub broken : Part
+  pub posed : IfSome told (λ bytes. IsPosed bytes job problem)
+  pub violates : Violates problem start broken
+  pub report : output ≡ violated_report problem no_tuples start broken
+
+-- the output that a status calls for, and the cause that it has; every other pair may not come
+abbrev pub Says : (told : List ℕ → Option (List ℕ)) → Option Request → Status → List ℕ → Type 0
+-- holds is sound
+Says told (Some (request.Check job budget)) status.Holds output = (output ≡ holds_report job.scope no_tuples) × IfSome (told job.file) (λ bytes. Holding bytes job)
+-- violated is sound
+Says told (Some (request.Check job budget)) status.Violated output = TellsBreach (told job.file) job output
+-- refusals
+Says told None status.Usage output = output ≡ line (codes "usage")
+Says told (Some (request.Check job budget)) status.NotBuilt output = (output ≡ line (codes "notbuilt")) × IfSome (told job.file) IsNoText
+Says told (Some (request.Check job budget)) status.NoMethod output = (output ≡ line (codes "nomethod")) × IfSome (told job.file) (λ bytes. LacksMethod bytes job)
+Says told (Some (request.Check job budget)) (status.TooLong slot) output =
+    (output ≡ line (codes "toolong")) × (slot ≡ 0) × IfSome (told job.file) (λ bytes. java_limit < length bytes)
+-- faults that write nothing
+Says told (Some (request.Check job budget)) status.ReadFault output = output ≡ []
+Says told asked status.NoMemory output = output ≡ []
+Says told asked _ output = ⊥
+
+-- the count of the file that is asked about rose
+abbrev pub FileRose : Option Request → Shelf → Shelf → Type 0
+FileRose None old new = ⊥
+FileRose (Some (request.Check job budget)) old new = NameRose job.file old new
+
+-- the output was cut: its first bytes went out, of one that another status calls for
+pub record IsCut (told : List ℕ → Option (List ℕ)) (asked : Option Request) (before after : Taken) : Type 0 where
+  pub meant : Status
+  pub output : List ℕ
+  pub sent : ℕ
+  pub says : Says told asked meant output
+  pub front : Appends before.bytes after.bytes (take sent output)
+
+-- the sink gained exactly the output that the status calls for
+pub record IsTold (told : List ℕ → Option (List ℕ)) (asked : Option Request) (ends : Status) (before after : Taken) : Type 0 where
+  pub output : List ℕ
+  pub says : Says told asked ends output
+  pub printed : Appends before.bytes after.bytes output
+
+-- the headline
+pub record Runs (asked : Option Request) (ends : Status) (old new : Shelf) (before after : Taken) : Type 0 where
+  -- the status has its cause, and its output was printed
+  pub told : ends ≢ status.WriteFault → IsTold old.content asked ends before after
+  -- with WriteFault what went out is a prefix of what another status calls for
+  pub cut : ends ≡ status.WriteFault → IsCut old.content asked before after
+  -- faults come only where a count rose, and no fault is passed over
+  pub read_fault : ends ≡ status.ReadFault → FileRose asked old new
+  pub no_read_fault : ends ≢ status.ReadFault → ends ≢ status.WriteFault → IsCalm old new
+  pub write_fault : ends ≡ status.WriteFault → Rose before.faults after.faults
+  pub no_write_fault : ends ≢ status.WriteFault → after.faults ≡ before.faults
+  -- nothing but slot 0 is used
+  pub stays : Stays 0 old new

@@ -1,0 +1,4 @@
+pub mod Asked
+pub mod Statuses
+pub mod Texts
+pub mod Headline

@@ -1,0 +1,10 @@
+//! The top call: a request is read from the words of a command line and done, and what it has to
+//! say goes to the sink.
+#![tactic(auto)]
+
+mod answer;
+mod request;
+mod texts;
+
+pub use answer::{Answer, Status};
+pub use request::{Job, Request, RequestFault, Text, request_of};
