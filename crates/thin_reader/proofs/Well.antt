@@ -24,7 +24,7 @@ use Rattle.thin_reader.specs.declared.headers.Header.{Header}
 use Rattle.thin_reader.specs.Tokens.{Text}
 use Rattle.thin_reader.specs.Names.{is_distinct}
 use Rattle.thin_reader.specs.Units.{param_of, parts_of, are_few}
-use Rattle.thin_reader.specs.Good.{Good, flags, Stands, AllGood, none_left, one_more, GoodClauses, GoodHeader, GoodParts}
+use Rattle.thin_reader.specs.Good.{Good, flags, Stands, AllGood, none_left, one_more, GoodClauses, GoodHeader, GoodParts, AllPlain}
 use Rattle.thin_reader.proofs.GoodHeader.{both}
 
 kinds_are : (names : List Text) → map (λ p. p.kind) (map param_of names) ≡ flags names
@@ -134,7 +134,7 @@ well class h clauses good =
       few_methods = omega arith;
     }
 
-pub plain : (class : Text) (h : Header) (clauses : Clauses) → GoodParts class h clauses → IsPlain (parts_of class h clauses) 0
+plain : (class : Text) (h : Header) (clauses : Clauses) → GoodParts class h clauses → IsPlain (parts_of class h clauses) 0
 plain class h clauses good =
     record {
       def = record {
@@ -164,3 +164,10 @@ plain class h clauses good =
         gives = rw (lengths_are h.params) (plains h.params Exit clauses.gives good.clauses_good.gives);
       };
     }
+
+plain_at : (class : Text) (h : Header) (clauses : Clauses) → GoodParts class h clauses → (method : ℕ) → method < 1 → IsPlain (parts_of class h clauses) method
+plain_at class h clauses good zero within = plain class h clauses good
+plain_at class h clauses good (suc m) within = absurd (omega arith)
+
+pub all_plain : (class : Text) (h : Header) (clauses : Clauses) → GoodParts class h clauses → AllPlain (parts_of class h clauses)
+all_plain class h clauses good = record { each = plain_at class h clauses good }

@@ -1,13 +1,14 @@
 -- What the parts of a text of this form are: words, plain conditions, few.
-use Rattle.std.specs.Prelude.{◌≡◌, nat_le, Bool, true, List, [], ◌∷◌, length, map, Option, Some}
+use Rattle.std.specs.Prelude.{◌≡◌, ℕ, ◌<◌, nat_le, Bool, true, List, [], ◌∷◌, length, map, Option, Some}
 use Rattle.std.specs.List.{list_all}
 use Rattle.taco_unit.specs.declared.kind.Kind.{Kind}
 use Rattle.taco_unit.specs.declared.kind.Kind.TheVariants as kind
 use Rattle.taco_unit.specs.declared.expr.Expr.{Expr}
 use Rattle.taco_unit.specs.declared.unit.Clause.{Clause}
+use Rattle.taco_unit.specs.Parts.{Parts}
 use Rattle.taco_unit.specs.Kinds.{Around, Form, Code, Entry, Exit, Of, sort_of}
 use Rattle.taco_unit.specs.Words.{is_word}
-use Rattle.boolean_trial.specs.Plain.{is_plain}
+use Rattle.boolean_trial.specs.Plain.{is_plain, IsPlain}
 use Rattle.thin_reader.specs.declared.clauses.Clauses.{Clauses}
 use Rattle.thin_reader.specs.declared.headers.Header.{Header}
 use Rattle.thin_reader.specs.Tokens.{Text}
@@ -52,3 +53,7 @@ pub record GoodParts (class : Text) (h : Header) (clauses : Clauses) : Type 0 wh
   pub header : GoodHeader h
   pub clauses_good : GoodClauses h.params clauses
   pub few : are_few clauses ≡ true
+
+-- every method of the unit is plain
+pub record AllPlain (u : Parts) : Type 0 where
+  pub each : (method : ℕ) → method < length u.methods → IsPlain u method

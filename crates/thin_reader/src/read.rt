@@ -1,6 +1,5 @@
 ghost use Rattle.std.specs.Prelude.{◌≡◌, ℕ, ◌≤◌, ◌-◌, true, length, map, take, drop, Some, IfOk, IfSome};
-ghost use Rattle.boolean_trial.specs.Plain.{IsPlain};
-ghost use Rattle.thin_reader.specs.Good.{GoodParts};
+ghost use Rattle.thin_reader.specs.Good.{AllPlain, GoodParts};
 ghost use Rattle.thin_reader.specs.Headers.{class_of, header_of};
 ghost use Rattle.thin_reader.specs.Units.{param_of, parts_of, are_few, line_tokens, is_end as is_end_lem, between, unit_of_lines, unit_of};
 
@@ -64,7 +63,7 @@ fn make_unit(
 ) -> Result<Unit, NoMemory>
     requires { GoodParts class header clauses }
     ensures made { IfOk result (λ unit. unit ≡ parts_of class header clauses) }
-    ensures plain { IfOk result (λ unit. IsPlain unit 0) }
+    ensures plain { IfOk result (λ unit. AllPlain unit) }
 {
     let Header {
         name,
@@ -130,7 +129,7 @@ fn unit_between(
     requires class { class_of (line_tokens (map (λ l. l.now) lines.now) 0) ≡ Some class }
     requires header { header_of (line_tokens (map (λ l. l.now) lines.now) (length lines.now - 2)) ≡ Some header }
     ensures made { IfOk result (λ found. found ≡ between (drop 1 (take (length lines.now - 2) (map (λ l. l.now) lines.now))) (Some class) (Some header)) }
-    ensures plain { IfOk result (λ found. IfSome found (λ unit. IsPlain unit 0)) }
+    ensures plain { IfOk result (λ found. IfSome found (λ unit. AllPlain unit)) }
 {
     match read_clauses(alloc, header.params.as_slice(), lines_between(lines))? {
         Some(clauses) => {
@@ -172,7 +171,7 @@ fn ends_at(alloc: Global, lines: &[&[u8]], at: usize) -> Result<bool, NoMemory>
 #[tactic(auto, using(crate::proofs::Units::too_few, crate::proofs::Units::no_end, crate::proofs::Units::unit_at))]
 fn unit_of_all(alloc: Global, lines: &[&[u8]]) -> Result<Option<Unit>, NoMemory>
     ensures made { IfOk result (λ found. found ≡ unit_of_lines (map (λ l. l.now) lines.now)) }
-    ensures plain { IfOk result (λ found. IfSome found (λ unit. IsPlain unit 0)) }
+    ensures plain { IfOk result (λ found. IfSome found (λ unit. AllPlain unit)) }
 {
     let count = lines.len();
     if count < 3 {
@@ -201,7 +200,7 @@ fn unit_of_all(alloc: Global, lines: &[&[u8]]) -> Result<Option<Unit>, NoMemory>
 /// Linear in the text.
 pub fn read_unit(alloc: Global, text: &[u8]) -> Result<Option<Unit>, NoMemory>
     ensures read { IfOk result (λ found. found ≡ unit_of text.now) }
-    ensures plain { IfOk result (λ found. IfSome found (λ unit. IsPlain unit 0)) }
+    ensures plain { IfOk result (λ found. IfSome found (λ unit. AllPlain unit)) }
 {
     match lines(alloc, text)? {
         Some(lines) => unit_of_all(alloc, &lines),
