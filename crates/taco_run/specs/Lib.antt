@@ -2,3 +2,4 @@ pub mod Asked
 pub mod Statuses
 pub mod Texts
 pub mod Headline
+pub mod Decided

@@ -1,5 +1,5 @@
 -- The texts that are printed: lines that end with LF, with decimal numbers.
-use Rattle.std.specs.Prelude.{ℕ, ◌==◌, List, [], ◌∷◌, ◌++◌, length, map, flat_map, zip, slice_get, Option, Some, None, option_map, decimal, codes, if◌then◌else◌}
+use Rattle.std.specs.Prelude.{ℕ, true, false, List, [], ◌∷◌, ◌++◌, length, map, flat_map, zip, slice_get, decimal, codes}
 use Rattle.std.specs.List.{enumerate_from}
 use Rattle.std.specs.Option.{option_map_or}
 use Rattle.std.specs.Fmt.{signed_decimal}
@@ -68,23 +68,34 @@ argument_line e = line (e.0.name ++ codes "=" ++ value_text e.1)
 abbrev pub params_of : Posed → List ParamDef
 params_of p = option_map_or (λ m. m.params) (method_of p) []
 
+-- the text of a start of these parameters, without objects
+abbrev pub plain_state : List ParamDef → Start → List ℕ
+plain_state params s = codes "objects 0\n" ++ this_line s.this ++ flat_map argument_line (zip params s.args)
+
 -- the text of a start
 abbrev pub state_text : Posed → Start → List ℕ
 state_text p s = heap_text p s.objects ++ this_line s.this ++ flat_map argument_line (zip (params_of p) s.args)
+
+-- the names of a field and of the class that declares it: `CLASS.FIELD`
+abbrev pub place_text : Posed → ℕ → List ℕ
+place_text p f = option_map_or (λ d. class_text p d.class ++ codes "." ++ d.name) (slice_get p.unit.fields f) []
 
 -- a part of a contract: `thrown`, `ensures I`, `result`, `nonnull @N CLASS.FIELD`, `invariant I @N`
 abbrev pub part_text : Posed → Part → List ℕ
 part_text p part.Thrown = codes "thrown"
 part_text p (part.Ensures k) = codes "ensures " ++ decimal k
 part_text p part.Result = codes "result"
-part_text p (part.NonNull o f) =
-    codes "nonnull " ++ object_text o ++ codes " " ++ option_map_or (λ d. class_text p d.class) (slice_get p.unit.fields f) [] ++ codes "." ++ field_text p f
+part_text p (part.NonNull o f) = codes "nonnull " ++ object_text o ++ codes " " ++ place_text p f
 part_text p (part.Invariant k o) = codes "invariant " ++ decimal k ++ codes " " ++ object_text o
+
+-- the line of a broken part
+abbrev pub broken_line : Posed → Part → List ℕ
+broken_line p b = line (codes "broken " ++ part_text p b)
 
 -- the line of the scope
 abbrev pub scope_line : Scope → List ℕ
 scope_line s =
-    codes "scope objects " ++ decimal s.objects ++ codes " ints " ++ decimal s.ints ++ codes " loops " ++ decimal s.loops ++ codes " calls " ++ decimal s.calls ++ 10 ∷ []
+    codes "scope objects " ++ (decimal s.objects ++ (codes " ints " ++ (decimal s.ints ++ (codes " loops " ++ (decimal s.loops ++ (codes " calls " ++ (decimal s.calls ++ codes "\n")))))))
 
 -- how many tuples there are, and how many of them are cleared, kept and open
 pub record Counts : Type 0 where
@@ -96,7 +107,7 @@ pub record Counts : Type 0 where
 -- the line of the counts
 abbrev pub counts_line : Counts → List ℕ
 counts_line n =
-    codes "tuples " ++ decimal n.tuples ++ codes " cleared " ++ decimal n.cleared ++ codes " kept " ++ decimal n.kept ++ codes " open " ++ decimal n.open_ ++ 10 ∷ []
+    codes "tuples " ++ (decimal n.tuples ++ (codes " cleared " ++ (decimal n.cleared ++ (codes " kept " ++ (decimal n.kept ++ (codes " open " ++ (decimal n.open_ ++ codes "\n")))))))
 
 -- a method without receiver and without parameters of class kind has no tuples
 abbrev pub no_tuples : Counts
@@ -107,4 +118,4 @@ abbrev pub holds_report : Scope → Counts → List ℕ
 holds_report scope n = line (codes "HOLDS") ++ scope_line scope ++ counts_line n
 
 abbrev pub violated_report : Posed → Counts → Start → Part → List ℕ
-violated_report p n s b = line (codes "VIOLATED") ++ scope_line p.scope ++ counts_line n ++ line (codes "broken " ++ part_text p b) ++ state_text p s
+violated_report p n s b = line (codes "VIOLATED") ++ scope_line p.scope ++ counts_line n ++ broken_line p b ++ state_text p s

@@ -3,6 +3,7 @@
 #![tactic(auto)]
 
 mod answer;
+mod check;
 mod request;
 mod texts;
 

@@ -1,8 +1,10 @@
-ghost use Rattle.std.specs.Prelude.{◌≡◌, ℕ, ◌++◌, List, ◌∷◌, [], map, decimal, codes, OnOk};
-ghost use Rattle.taco_run.specs.Texts.{line, object_text, value_text, scope_line, counts_line, this_line, argument_line};
+ghost use Rattle.std.specs.Prelude.{◌≡◌, ℕ, ◌++◌, List, ◌∷◌, [], length, flat_map, zip, string_bytes, decimal, codes, IfOk, OnOk};
+ghost use Rattle.std.specs.Fmt.{signed_decimal};
+ghost use Rattle.taco_run.specs.Texts.{argument_line, broken_line, class_text, counts_line, holds_report, line, no_tuples, object_text, params_of, part_text, place_text, plain_state, scope_line, state_text, this_line, value_text, violated_report};
 
-use heap_core::{Scope, Value};
+use heap_core::{Part, Problem, Scope, Start, Value};
 use no_memory::NoMemory;
+use std::alloc::Global;
 use taco_unit::ParamDef;
 
 /// Adds a text.
@@ -14,9 +16,249 @@ fn add(out: &mut Vec<u8>, text: &[u8]) -> Result<(), NoMemory>
 }
 
 /// Adds a number, in decimal.
-fn add_number(out: &mut Vec<u8>, n: u64) -> Result<(), NoMemory>
+fn add_number(alloc: Global, out: &mut Vec<u8>, n: u64) -> Result<(), NoMemory>
     ensures { OnOk result (out.new.items ≡ out.old.items ++ decimal n) }
 {
-    let text = format!(in *out.allocator(); "{n}")?;
+    let text = format!(in alloc; "{n}")?;
     add(out, text.as_bytes())
+}
+
+/// Adds a signed number, in decimal.
+fn add_signed(alloc: Global, out: &mut Vec<u8>, z: i32) -> Result<(), NoMemory>
+    ensures { OnOk result (out.new.items ≡ out.old.items ++ signed_decimal z) }
+{
+    let text = format!(in alloc; "{z}")?;
+    add(out, text.as_bytes())
+}
+
+/// Adds `@` and the number of an object.
+fn add_object(alloc: Global, out: &mut Vec<u8>, o: u8) -> Result<(), NoMemory>
+    ensures { OnOk result (out.new.items ≡ out.old.items ++ object_text o) }
+{
+    add(out, b"@")?;
+    add_number(alloc, out, u64::from(o))
+}
+
+/// Adds a value.
+fn add_value(alloc: Global, out: &mut Vec<u8>, value: Value) -> Result<(), NoMemory>
+    ensures { OnOk result (out.new.items ≡ out.old.items ++ value_text value) }
+{
+    match value {
+        Value::Null => add(out, b"null"),
+        Value::Obj(o) => add_object(alloc, out, o),
+        Value::Num(z) => add_signed(alloc, out, z),
+        Value::Flag(true) => add(out, b"true"),
+        Value::Flag(false) => add(out, b"false"),
+    }
+}
+
+/// Adds the line of the receiver.
+fn add_this(alloc: Global, out: &mut Vec<u8>, this: Value) -> Result<(), NoMemory>
+    ensures { OnOk result (out.new.items ≡ out.old.items ++ this_line this) }
+{
+    add(out, b"this ")?;
+    match this {
+        Value::Obj(o) => add_object(alloc, out, o)?,
+        _ => add(out, b"none")?,
+    }
+    add(out, b"\n")
+}
+
+/// Adds the line of an argument.
+fn add_argument(
+    alloc: Global,
+    out: &mut Vec<u8>,
+    param: &ParamDef,
+    value: Value,
+) -> Result<(), NoMemory>
+    ensures { OnOk result (out.new.items ≡ out.old.items ++ argument_line (param.now, value)) }
+{
+    add(out, param.name.bytes())?;
+    add(out, b"=")?;
+    add_value(alloc, out, value)?;
+    add(out, b"\n")
+}
+
+/// Adds the lines of the arguments.
+fn add_arguments(
+    alloc: Global,
+    out: &mut Vec<u8>,
+    params: &[ParamDef],
+    values: &[Value],
+) -> Result<(), NoMemory>
+    ensures { OnOk result (out.new.items ≡ out.old.items ++ flat_map argument_line (zip params.now values.now)) }
+{
+    let count = params.len().min(values.len());
+    for i in 0..count {
+        add_argument(alloc, out, &params[i], values[i])?;
+    }
+    Ok(())
+}
+
+/// The line of the scope.
+fn scope_text(alloc: Global, scope: Scope) -> Result<String, NoMemory>
+    ensures { IfOk result (λ text. string_bytes text ≡ scope_line scope) }
+{
+    let Scope {
+        objects,
+        ints,
+        loops,
+        calls,
+    } = scope;
+    let text = format!(in alloc; "scope objects {objects} ints {ints} loops {loops} calls {calls}\n")?;
+    Ok(text)
+}
+
+/// The line of the counts.
+fn counts_text(
+    alloc: Global,
+    tuples: u32,
+    cleared: u32,
+    kept: u32,
+    untold: u32,
+) -> Result<String, NoMemory>
+    ensures { IfOk result (λ text. string_bytes text ≡ counts_line (record { tuples = tuples; cleared = cleared; kept = kept; open_ = untold })) }
+{
+    let text = format!(in alloc; "tuples {tuples} cleared {cleared} kept {kept} open {untold}\n")?;
+    Ok(text)
+}
+
+/// A verdict, the line of the scope, and that of the counts of a problem without tuples.
+fn report_head(alloc: Global, verdict: &str, scope: Scope) -> Result<Vec<u8>, NoMemory>
+    ensures { IfOk result (λ text. text.items ≡ verdict.now ++ scope_line scope ++ counts_line no_tuples) }
+{
+    let mut out = Vec::from_slice(alloc, verdict.as_bytes())?;
+    let scope = scope_text(alloc, scope)?;
+    add(&mut out, scope.as_bytes())?;
+    let counts = counts_text(alloc, 0, 0, 0, 0)?;
+    add(&mut out, counts.as_bytes())?;
+    Ok(out)
+}
+
+/// The report of a method that holds.
+pub(crate) fn holds_text(alloc: Global, scope: Scope) -> Result<Vec<u8>, NoMemory>
+    ensures { IfOk result (λ text. text.items ≡ holds_report scope no_tuples) }
+{
+    report_head(alloc, "HOLDS\n", scope)
+}
+
+/// Adds the name of the class of this number.
+fn add_class(out: &mut Vec<u8>, problem: &Problem, class: u8) -> Result<(), NoMemory>
+    ensures { OnOk result (out.new.items ≡ out.old.items ++ class_text problem.now class) }
+{
+    match problem.unit.classes.as_slice().get(class as usize) {
+        Some(def) => add(out, def.name.bytes()),
+        None => Ok(()),
+    }
+}
+
+/// Adds the names of the field of this number and of the class that declares it.
+fn add_field(out: &mut Vec<u8>, problem: &Problem, field: u8) -> Result<(), NoMemory>
+    ensures { OnOk result (out.new.items ≡ out.old.items ++ place_text problem.now field) }
+{
+    match problem.unit.fields.as_slice().get(field as usize) {
+        Some(def) => {
+            add_class(out, problem, def.class)?;
+            add(out, b".")?;
+            add(out, def.name.bytes())
+        }
+        None => Ok(()),
+    }
+}
+
+/// Adds a part of a contract.
+fn add_part(
+    alloc: Global,
+    out: &mut Vec<u8>,
+    problem: &Problem,
+    part: Part,
+) -> Result<(), NoMemory>
+    ensures { OnOk result (out.new.items ≡ out.old.items ++ part_text problem.now part) }
+{
+    match part {
+        Part::Thrown => add(out, b"thrown"),
+        Part::Ensures(k) => {
+            add(out, b"ensures ")?;
+            add_number(alloc, out, u64::from(k))
+        }
+        Part::Result => add(out, b"result"),
+        Part::NonNull(o, field) => {
+            add(out, b"nonnull ")?;
+            add_object(alloc, out, o)?;
+            add(out, b" ")?;
+            add_field(out, problem, field)
+        }
+        Part::Invariant(k, o) => {
+            add(out, b"invariant ")?;
+            add_number(alloc, out, u64::from(k))?;
+            add(out, b" ")?;
+            add_object(alloc, out, o)
+        }
+    }
+}
+
+/// Adds the text of a start without objects.
+fn add_state(
+    alloc: Global,
+    out: &mut Vec<u8>,
+    params: &[ParamDef],
+    start: &Start,
+) -> Result<(), NoMemory>
+    requires { start.now.objects ≡ [] }
+    ensures { OnOk result (out.new.items ≡ out.old.items ++ plain_state params.now start.now) }
+{
+    add(out, b"objects 0\n")?;
+    add_this(alloc, out, start.this)?;
+    add_arguments(alloc, out, params, start.args.as_slice())?;
+    Ok(())
+}
+
+/// Adds the line of the broken part.
+fn add_broken(
+    alloc: Global,
+    out: &mut Vec<u8>,
+    problem: &Problem,
+    part: Part,
+) -> Result<(), NoMemory>
+    ensures { OnOk result (out.new.items ≡ out.old.items ++ broken_line problem.now part) }
+{
+    add(out, b"broken ")?;
+    add_part(alloc, out, problem, part)?;
+    add(out, b"\n")
+}
+
+/// The parameters of the method that is judged.
+fn params_in(problem: &Problem) -> &[ParamDef]
+    ensures { result.now ≡ params_of problem.now }
+{
+    match problem.unit.methods.as_slice().get(problem.method as usize) {
+        Some(method) => method.params.as_slice(),
+        None => &[],
+    }
+}
+
+/// The report of a method that breaks this part of its contract from this start, which has no
+/// objects.
+pub(crate) fn violated_text(
+    alloc: Global,
+    problem: &Problem,
+    start: &Start,
+    part: Part,
+) -> Result<Vec<u8>, NoMemory>
+    requires { start.now.objects ≡ [] }
+    ensures { IfOk result (λ text. text.items ≡ violated_report problem.now no_tuples start.now part) }
+{
+    let mut out = report_head(alloc, "VIOLATED\n", problem.scope)?;
+    add_broken(alloc, &mut out, problem, part)?;
+    add_state(alloc, &mut out, params_in(problem), start)?;
+    Ok(out)
+}
+
+/// A line of one word.
+pub(crate) fn word_line(alloc: Global, word: &str) -> Result<Vec<u8>, NoMemory>
+    ensures { IfOk result (λ text. text.items ≡ line word.now) }
+{
+    let mut out = Vec::from_slice(alloc, word.as_bytes())?;
+    add(&mut out, b"\n")?;
+    Ok(out)
 }

@@ -1,0 +1,48 @@
+-- What a check comes to, once its text is read.
+use Rattle.std.specs.Prelude.{◌≡◌, ℕ, List, Option, Some, None, codes}
+use Rattle.taco_unit.specs.Parts.{Parts}
+use Rattle.taco_unit.specs.Named.{class_number, method_number}
+use Rattle.heap_core.specs.declared.start.Start.{Start}
+use Rattle.heap_core.specs.declared.judged.Part.{Part}
+use Rattle.heap_core.specs.Posed.{Posed}
+use Rattle.heap_core.specs.Judge.{Violates, Violable}
+use Rattle.taco_run.specs.declared.answer.Status.{Status}
+use Rattle.taco_run.specs.declared.answer.Status.TheVariants as status
+use Rattle.taco_run.specs.declared.check.Outcome.{Outcome}
+use Rattle.taco_run.specs.declared.request.Job.{Job}
+use Rattle.taco_run.specs.declared.request.Request.TheVariants as request
+use Rattle.taco_run.specs.Headline.{Names, Says}
+use Rattle.taco_run.specs.Texts.{line, no_tuples, holds_report, violated_report}
+
+-- a refusal with its line
+pub record IsRefusal (ends : Status) (word : List ℕ) (outcome : Outcome) : Type 0 where
+  pub status_is : outcome.status ≡ ends
+  pub told : outcome.output.items ≡ line word
+
+-- a start that breaks a part was told
+pub record ToldBreach (p : Posed) (output : List ℕ) : Type 0 where
+  pub start : Start
+  pub broken : Part
+  pub violates : Violates p start broken
+  pub told : output ≡ violated_report p no_tuples start broken
+
+-- the verdict on a problem
+abbrev pub TellsBy : Posed → Status → List ℕ → Type 0
+TellsBy p status.Holds output = (output ≡ holds_report p.scope no_tuples) × (Violable p → ⊥)
+TellsBy p status.Violated output = ToldBreach p output
+TellsBy p _ output = ⊥
+
+pub record Tells (p : Posed) (outcome : Outcome) : Type 0 where
+  pub by : TellsBy p outcome.status outcome.output.items
+
+-- what a check of a unit comes to
+abbrev pub ChecksBy : Parts → Job → Status → List ℕ → Type 0
+ChecksBy u job status.NoMethod output = (output ≡ line (codes "nomethod")) × ((class method : ℕ) → Names u job class method → ⊥)
+ChecksBy u job ends output = (class : ℕ) × (method : ℕ) × Names u job class method × TellsBy (record { unit = u; method = method; scope = job.scope }) ends output
+
+pub record Checks (u : Parts) (job : Job) (outcome : Outcome) : Type 0 where
+  pub by : ChecksBy u job outcome.status outcome.output.items
+
+-- what a check of a text comes to: what the table says where these bytes are told
+pub record Decides (bytes : List ℕ) (job : Job) (outcome : Outcome) : Type 0 where
+  pub by : Says (λ name. Some bytes) (Some (request.Check job 0)) outcome.status outcome.output.items

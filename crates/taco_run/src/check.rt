@@ -1,0 +1,87 @@
+ghost use Rattle.std.specs.Prelude.{◌≡◌, ◌<◌, ◌≤◌, length, IfOk};
+ghost use Rattle.taco_run.specs.Asked.{usual_scope};
+ghost use Rattle.taco_run.specs.Decided.{Checks, Decides, IsRefusal, Tells};
+ghost use Rattle.thin_reader.specs.Good.{AllPlain};
+ghost use Rattle.taco_run.specs.Headline.{java_limit};
+
+use crate::answer::Status;
+use crate::request::Job;
+use crate::texts::{holds_text, violated_text, word_line};
+use boolean_trial::tried;
+use heap_core::Problem;
+use no_memory::NoMemory;
+use std::alloc::Global;
+use taco_unit::Unit;
+use thin_reader::read_unit;
+
+/// What a request comes to: its status, and what is to be printed.
+#[derive(Drop)]
+pub struct Outcome {
+    pub status: Status,
+    pub output: Vec<u8>,
+}
+
+/// A refusal, with its line.
+pub(crate) fn refusal(alloc: Global, status: Status, word: &str) -> Result<Outcome, NoMemory>
+    ensures { IfOk result (IsRefusal status word.now) }
+{
+    let output = word_line(alloc, word)?;
+    Ok(Outcome { status, output })
+}
+
+/// Tries a method of a unit.
+fn try_method(
+    alloc: Global,
+    unit: Unit,
+    method: u8,
+    job: &Job,
+) -> Result<Outcome, NoMemory>
+    requires there { method < length unit.methods }
+    requires scope { job.now.scope ≡ usual_scope }
+    requires plain { AllPlain unit }
+    ensures { IfOk result (Tells (record { unit = unit; method = method; scope = job.now.scope })) }
+{
+    let scope = job.scope;
+    let problem = Problem {
+        unit,
+        method,
+        scope,
+    };
+    match tried(alloc, &problem)? {
+        Some(breach) => Ok(Outcome {
+            status: Status::Violated,
+            output: violated_text(alloc, &problem, &breach.start, breach.part)?,
+        }),
+        None => Ok(Outcome {
+            status: Status::Holds,
+            output: holds_text(alloc, scope)?,
+        }),
+    }
+}
+
+/// Looks a method up in a unit, and tries it.
+fn check_unit(alloc: Global, unit: Unit, job: &Job) -> Result<Outcome, NoMemory>
+    requires scope { job.now.scope ≡ usual_scope }
+    requires plain { AllPlain unit }
+    ensures { IfOk result (Checks unit job.now) }
+{
+    let Some(class) = unit.class_named(job.class.bytes()) else {
+        return refusal(alloc, Status::NoMethod, "nomethod");
+    };
+    match unit.method_named(class, job.method.bytes()) {
+        Some(method) => try_method(alloc, unit, method, job),
+        None => refusal(alloc, Status::NoMethod, "nomethod"),
+    }
+}
+
+/// Decides a check of a text.
+pub(crate) fn decide(alloc: Global, bytes: &[u8], job: &Job) -> Result<Outcome, NoMemory>
+    requires scope { job.now.scope ≡ usual_scope }
+    requires short { length bytes.now ≤ java_limit }
+    ensures { IfOk result (Decides bytes.now job.now) }
+{
+    match read_unit(alloc, bytes)? {
+        Some(unit) => check_unit(alloc, unit, job),
+        None => refusal(alloc, Status::NotBuilt, "notbuilt"),
+    }
+}
