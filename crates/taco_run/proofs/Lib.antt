@@ -1,2 +1,5 @@
-pub mod Words
+pub mod Deciding
+pub mod Joined
 pub mod Lines
+pub mod Plainly
+pub mod Words

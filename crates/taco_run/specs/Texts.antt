@@ -48,9 +48,13 @@ fields_of_class p c = option_map_or (λ d. d.fields) (slice_get p.unit.classes c
 abbrev pub object_line : Posed → ℕ × Object → List ℕ
 object_line p e = line (object_text e.0 ++ codes " " ++ class_text p e.1.class ++ flat_map (cell_text p) (zip (fields_of_class p e.1.class) e.1.cells))
 
+-- the line of a number of objects
+abbrev pub objects_line : ℕ → List ℕ
+objects_line n = codes "objects " ++ (decimal n ++ codes "\n")
+
 -- the lines of a heap: `objects N`, and one for each object
 abbrev pub heap_text : Posed → List Object → List ℕ
-heap_text p heap = codes "objects " ++ decimal (length heap) ++ 10 ∷ [] ++ flat_map (object_line p) (enumerate_from 0 heap)
+heap_text p heap = objects_line (length heap) ++ flat_map (object_line p) (enumerate_from 0 heap)
 
 -- the line of the receiver: `this @i`, or `this none` of a static method
 abbrev pub this_value : Value → List ℕ
@@ -70,7 +74,7 @@ params_of p = option_map_or (λ m. m.params) (method_of p) []
 
 -- the text of a start of these parameters, without objects
 abbrev pub plain_state : List ParamDef → Start → List ℕ
-plain_state params s = codes "objects 0\n" ++ this_line s.this ++ flat_map argument_line (zip params s.args)
+plain_state params s = objects_line 0 ++ this_line s.this ++ flat_map argument_line (zip params s.args)
 
 -- the text of a start
 abbrev pub state_text : Posed → Start → List ℕ

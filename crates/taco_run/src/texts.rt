@@ -1,6 +1,6 @@
 ghost use Rattle.std.specs.Prelude.{◌≡◌, ℕ, ◌++◌, List, ◌∷◌, [], length, flat_map, zip, string_bytes, decimal, codes, IfOk, OnOk};
 ghost use Rattle.std.specs.Fmt.{signed_decimal};
-ghost use Rattle.taco_run.specs.Texts.{argument_line, broken_line, class_text, counts_line, holds_report, line, no_tuples, object_text, params_of, part_text, place_text, plain_state, scope_line, state_text, this_line, value_text, violated_report};
+ghost use Rattle.taco_run.specs.Texts.{argument_line, broken_line, class_text, counts_line, holds_report, line, no_tuples, object_text, objects_line, params_of, part_text, place_text, plain_state, scope_line, state_text, this_line, value_text, violated_report};
 
 use heap_core::{Part, Problem, Scope, Start, Value};
 use no_memory::NoMemory;
@@ -197,6 +197,14 @@ fn add_part(
     }
 }
 
+/// The line of a number of objects.
+fn objects_text(alloc: Global, count: u32) -> Result<String, NoMemory>
+    ensures { IfOk result (λ text. string_bytes text ≡ objects_line count) }
+{
+    let text = format!(in alloc; "objects {count}\n")?;
+    Ok(text)
+}
+
 /// Adds the text of a start without objects.
 fn add_state(
     alloc: Global,
@@ -207,7 +215,8 @@ fn add_state(
     requires { start.now.objects ≡ [] }
     ensures { OnOk result (out.new.items ≡ out.old.items ++ plain_state params.now start.now) }
 {
-    add(out, b"objects 0\n")?;
+    let objects = objects_text(alloc, 0)?;
+    add(out, objects.as_bytes())?;
     add_this(alloc, out, start.this)?;
     add_arguments(alloc, out, params, start.args.as_slice())?;
     Ok(())
