@@ -3,3 +3,4 @@ pub mod Joined
 pub mod Lines
 pub mod Plainly
 pub mod Words
+pub mod Joining

@@ -109,7 +109,7 @@ pub record Runs (asked : Option Request) (ends : Status) (old new : Shelf) (befo
   pub cut : ends ≡ status.WriteFault → IsCut old.content asked before after
   -- faults come only where a count rose, and no fault is passed over
   pub read_fault : ends ≡ status.ReadFault → FileRose asked old new
-  pub no_read_fault : ends ≢ status.ReadFault → ends ≢ status.WriteFault → IsCalm old new
+  pub no_read_fault : ends ≢ status.ReadFault → IsCalm old new
   pub write_fault : ends ≡ status.WriteFault → Rose before.faults after.faults
   pub no_write_fault : ends ≢ status.WriteFault → after.faults ≡ before.faults
   -- nothing but slot 0 is used

@@ -3,3 +3,4 @@ pub mod Statuses
 pub mod Texts
 pub mod Headline
 pub mod Decided
+pub mod Steps

@@ -3,9 +3,11 @@
 #![tactic(auto)]
 
 mod answer;
+mod call;
 mod check;
 mod request;
 mod texts;
 
 pub use answer::{Answer, Status};
+pub use call::run;
 pub use request::{Job, Request, RequestFault, Text, request_of};
