@@ -1,5 +1,5 @@
 -- From a check of a unit to the table.
-use Rattle.std.proofs.Common.{◌≡◌, ℕ, ◌≤◌, List, length, Option, Some, None, refl}
+use Rattle.std.proofs.Common.{◌≡◌, ◌≢◌, ℕ, ◌≤◌, List, length, Option, Some, None, refl, subst}
 use Rattle.taco_unit.specs.Parts.{Parts}
 use Rattle.heap_core.specs.Posed.{Posed}
 use Rattle.thin_reader.specs.Units.{unit_of, Reads}
@@ -37,5 +37,9 @@ decided_by bytes job u is short status.ReadFault output checks = absurd checks.3
 decided_by bytes job u is short status.WriteFault output checks = absurd checks.3
 decided_by bytes job u is short status.NoMemory output checks = absurd checks.3
 
+no_fault_by : (job : Job) (u : Parts) (ends : Status) (output : List ℕ) → ChecksBy u job ends output → ends ≢ status.ReadFault
+no_fault_by job u ends output checks is = let none = subst (λ s. ChecksBy u job s output) is checks in absurd none.3
+
 pub decided : (bytes : List ℕ) (job : Job) (u : Parts) → unit_of bytes ≡ Some u → length bytes ≤ java_limit → (o : Outcome) → Checks u job o → Decides bytes job o
-decided bytes job u is short o checks = record { by = decided_by bytes job u is short o.status o.output.items checks.by }
+decided bytes job u is short o checks =
+    record { by = decided_by bytes job u is short o.status o.output.items checks.by; no_fault = no_fault_by job u o.status o.output.items checks.by }

@@ -1,5 +1,5 @@
 -- What a check comes to, once its text is read.
-use Rattle.std.specs.Prelude.{◌≡◌, ℕ, List, Option, Some, None, codes}
+use Rattle.std.specs.Prelude.{◌≡◌, ◌≢◌, ℕ, List, Option, Some, None, codes}
 use Rattle.taco_unit.specs.Parts.{Parts}
 use Rattle.taco_unit.specs.Named.{class_number, method_number}
 use Rattle.heap_core.specs.declared.start.Start.{Start}
@@ -46,3 +46,4 @@ pub record Checks (u : Parts) (job : Job) (outcome : Outcome) : Type 0 where
 -- what a check of a text comes to: what the table says where these bytes are told
 pub record Decides (bytes : List ℕ) (job : Job) (outcome : Outcome) : Type 0 where
   pub by : Says (λ name. Some bytes) (Some (request.Check job 0)) outcome.status outcome.output.items
+  pub no_fault : outcome.status ≢ status.ReadFault

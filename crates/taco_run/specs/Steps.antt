@@ -35,6 +35,7 @@ pub record IsWritten (meant : Status) (output : List ℕ) (before after : Taken)
   pub calm : ends ≢ status.WriteFault → after.faults ≡ before.faults
   pub sent : ℕ
   pub front : ends ≡ status.WriteFault → Appends before.bytes after.bytes (take sent output)
+  pub short : ends ≡ status.WriteFault → sent < length output
   pub rose : ends ≡ status.WriteFault → Rose before.faults after.faults
 
 -- an outcome without output
