@@ -134,8 +134,8 @@ ran asked old new before after o ends answered written =
       };
       cut = λ is. record { meant = o.status; output = o.output.items; sent = written.sent; says = answered.says; front = written.front is };
       read_fault = λ fault.
-        let whole : ends ≢ status.WriteFault = λ is. let same : status.ReadFault ≡ status.WriteFault = sym fault ∙ is in cc in
-        answered.read_fault (sym (written.same whole) ∙ fault);
+          let whole : ends ≢ status.WriteFault = λ is. let same : status.ReadFault ≡ status.WriteFault = sym fault ∙ is in cc in
+          answered.read_fault (sym (written.same whole) ∙ fault);
       no_read_fault = λ none. answered.no_read_fault (no_hidden_fault asked old new before after o ends answered written none (cut_or_not ends));
       write_fault = written.rose;
       no_write_fault = written.calm;

@@ -63,7 +63,10 @@ fn check_file<F: Files>(alloc: Global, files: &mut F, job: &Job) -> Outcome
 {
     match read_file(alloc, files, job.file.as_str(), JAVA_LIMIT) {
         Ok(bytes) => or_no_memory(alloc, decide(alloc, &bytes, job)),
-        Err(ReadEnd::TooLong) => or_no_memory(alloc, refusal(alloc, Status::TooLong { slot: 0 }, "toolong")),
+        Err(ReadEnd::TooLong) => or_no_memory(
+            alloc,
+            refusal(alloc, Status::TooLong { slot: 0 }, "toolong"),
+        ),
         Err(ReadEnd::Fault) => silent(alloc, Status::ReadFault),
         Err(ReadEnd::NoMemory) => silent(alloc, Status::NoMemory),
     }
@@ -95,12 +98,7 @@ fn finish<K: Sink>(sink: &mut K, outcome: &Outcome) -> Status
 /// the method keeps its contract within the usual scope. Every other list of words is refused.
 /// The whole output is made before the first byte is pushed.
 #[tactic(auto, using(crate::proofs::Joining::ran))]
-pub fn run<F: Files, K: Sink>(
-    alloc: Global,
-    words: &[&str],
-    files: &mut F,
-    sink: &mut K,
-) -> Answer
+pub fn run<F: Files, K: Sink>(alloc: Global, words: &[&str], files: &mut F, sink: &mut K) -> Answer
     ensures { Runs (asked (map (λ w. w.now) words.now)) result.status (F.shelf files.old) (F.shelf files.new) (K.taken sink.old) (K.taken sink.new) }
 {
     let outcome = answer_of(alloc, words, files);

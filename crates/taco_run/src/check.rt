@@ -30,12 +30,7 @@ pub(crate) fn refusal(alloc: Global, status: Status, word: &str) -> Result<Outco
 }
 
 /// Tries a method of a unit.
-fn try_method(
-    alloc: Global,
-    unit: Unit,
-    method: u8,
-    job: &Job,
-) -> Result<Outcome, NoMemory>
+fn try_method(alloc: Global, unit: Unit, method: u8, job: &Job) -> Result<Outcome, NoMemory>
     requires there { method < length unit.methods }
     requires scope { job.now.scope ≡ usual_scope }
     requires plain { AllPlain unit }

@@ -11,3 +11,6 @@ mod texts;
 pub use answer::{Answer, Status};
 pub use call::run;
 pub use request::{Job, Request, RequestFault, Text, request_of};
+
+#[cfg(test)]
+mod tests;

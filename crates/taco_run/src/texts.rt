@@ -105,7 +105,9 @@ fn scope_text(alloc: Global, scope: Scope) -> Result<String, NoMemory>
         loops,
         calls,
     } = scope;
-    let text = format!(in alloc; "scope objects {objects} ints {ints} loops {loops} calls {calls}\n")?;
+    let text = format!(in alloc;
+        "scope objects {objects} ints {ints} loops {loops} calls {calls}\n"
+    )?;
     Ok(text)
 }
 
@@ -167,12 +169,7 @@ fn add_field(out: &mut Vec<u8>, problem: &Problem, field: u8) -> Result<(), NoMe
 }
 
 /// Adds a part of a contract.
-fn add_part(
-    alloc: Global,
-    out: &mut Vec<u8>,
-    problem: &Problem,
-    part: Part,
-) -> Result<(), NoMemory>
+fn add_part(alloc: Global, out: &mut Vec<u8>, problem: &Problem, part: Part) -> Result<(), NoMemory>
     ensures { OnOk result (out.new.items ≡ out.old.items ++ part_text problem.now part) }
 {
     match part {

@@ -1,0 +1,4 @@
+class B {
+  //@ ensures \result == a;
+  static boolean id(boolean a) { return a; }
+}

@@ -1,0 +1,66 @@
+//! The program: `taco check FILE --class C --method M` prints whether the method keeps its contract,
+//! and ends with the status of that answer.
+#![tactic(auto)]
+
+use std::alloc::Global;
+use std::env;
+use std::io;
+use std::process::ExitCode;
+use std::rt::Env;
+use taco_io::{RealFiles, RealSink};
+use taco_run::run;
+
+/// The status where the system gives no words for want of memory, and where it gives none for
+/// another cause.
+const NO_MEMORY: u8 = 8;
+const NO_WORDS: u8 = 9;
+
+/// The status that such an error means.
+fn status_of(error: &io::Error) -> u8 {
+    match error.kind() {
+        io::ErrorKind::OutOfMemory => NO_MEMORY,
+        _ => NO_WORDS,
+    }
+}
+
+/// The words after the program's name, or the status that says why there are none.
+fn words<R: Env + AllocGlobal>(alloc: Global, system: &R) -> Result<Vec<String>, u8> {
+    let args = match env::args(system) {
+        Ok(args) => args,
+        Err(error) => return Err(status_of(&error)),
+    };
+    let mut words = Vec::new(alloc);
+    for word in args.skip(1) {
+        if words.push(word).is_err() {
+            return Err(NO_MEMORY);
+        }
+    }
+    Ok(words)
+}
+
+/// The same words, lent.
+fn lent<'a>(alloc: Global, words: &'a [String]) -> Result<Vec<&'a str>, u8> {
+    let mut all = Vec::new(alloc);
+    for word in words {
+        if all.push(word.as_str()).is_err() {
+            return Err(NO_MEMORY);
+        }
+    }
+    Ok(all)
+}
+
+/// Does what the words ask for, with the system's files and standard output.
+fn status(rt: &HostRuntime) -> Result<u8, u8> {
+    let alloc = rt.alloc();
+    let words = words(alloc, rt)?;
+    let words = lent(alloc, words.as_slice())?;
+    let mut files = RealFiles::new(alloc, rt);
+    let mut sink = RealSink::new(io::writer(rt));
+    Ok(run(alloc, words.as_slice(), &mut files, &mut sink).status.code())
+}
+
+fn main(rt: HostRuntime) -> ExitCode {
+    match status(&rt) {
+        Ok(code) | Err(code) => ExitCode::from(code),
+    }
+}

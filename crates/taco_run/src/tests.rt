@@ -1,0 +1,125 @@
+ghost use Rattle.std.specs.Prelude.{◌<◌};
+
+use super::*;
+use no_memory::NoMemory;
+use std::alloc::Global;
+use std::test::Fail;
+use taco_io::{MemFiles, MemSink};
+
+/// A method that answers its parameter.
+const IDENTITY: &str =
+    "class B {\n  //@ ensures \\result == a;\n  static boolean id(boolean a) { return a; }\n}\n";
+
+const WORDS: [&str; 6] = ["check", "B.java", "--class", "B", "--method", "id"];
+
+const HOLDS: &str =
+    "HOLDS\nscope objects 3 ints 4 loops 3 calls 2\ntuples 0 cleared 0 kept 0 open 0\n";
+
+/// How `run` ends on the file B.java, of which each call moves at most `most` bytes and these calls
+/// fail.
+fn status_of(
+    alloc: Global,
+    text: &[u8],
+    words: &[&str],
+    most: usize,
+    failing: &[u64],
+    sink: &mut MemSink,
+) -> Result<Status, NoMemory>
+    requires { 0 < most }
+{
+    let name = b"B.java".to_vec(alloc)?;
+    let content = text.to_vec(alloc)?;
+    let mut contents = Vec::new(alloc);
+    contents.push((name, content))?;
+    let mut files = MemFiles::new(alloc, contents, most, failing.to_vec(alloc)?);
+    Ok(run(alloc, words, &mut files, sink).status)
+}
+
+#[test]
+fn a_method_that_holds(rt: HostRuntime) -> Result<(), Fail> {
+    let alloc = rt.alloc();
+    for most in [1, 4096] {
+        let mut sink = MemSink::new(alloc, 1000, most, Vec::new(alloc))?;
+        let text = IDENTITY.as_bytes();
+        assert_eq!(rt;
+            status_of(alloc, text, &WORDS, most, &[], &mut sink)?,
+            Status::Holds
+        );
+        assert_eq!(rt; sink.bytes(), HOLDS.as_bytes());
+    }
+    Ok(())
+}
+
+#[test]
+fn a_method_that_does_not_hold(rt: HostRuntime) -> Result<(), Fail> {
+    let alloc = rt.alloc();
+    let text =
+        b"class B {\n  //@ ensures \\result;\n  static boolean id(boolean a) { return a; }\n}\n";
+    let mut sink = MemSink::new(alloc, 1000, 1, Vec::new(alloc))?;
+    assert_eq!(rt;
+        status_of(alloc, text, &WORDS, 7, &[], &mut sink)?,
+        Status::Violated
+    );
+    let report =
+        "VIOLATED\nscope objects 3 ints 4 loops 3 calls 2\ntuples 0 cleared 0 kept 0 open 0\nbroken ensures 1\nobjects 0\nthis none\na=false\n";
+    assert_eq!(rt; sink.bytes(), report.as_bytes());
+    Ok(())
+}
+
+#[test]
+fn refusals_have_their_lines(rt: HostRuntime) -> Result<(), Fail> {
+    let alloc = rt.alloc();
+    let text = IDENTITY.as_bytes();
+    let mut sink = MemSink::new(alloc, 1000, 9, Vec::new(alloc))?;
+    let other = ["check", "B.java", "--class", "B", "--method", "no"];
+    assert_eq!(rt;
+        status_of(alloc, text, &other, 9, &[], &mut sink)?,
+        Status::NoMethod
+    );
+    let short = ["check", "B.java", "--class", "B"];
+    assert_eq!(rt;
+        status_of(alloc, text, &short, 9, &[], &mut sink)?,
+        Status::Usage
+    );
+    assert_eq!(rt;
+        status_of(alloc, b"class B {\n}\n", &WORDS, 9, &[], &mut sink)?,
+        Status::NotBuilt
+    );
+    assert_eq!(rt; sink.bytes(), b"nomethod\nusage\nnotbuilt\n".as_slice());
+    Ok(())
+}
+
+#[test]
+fn a_text_over_the_limit(rt: HostRuntime) -> Result<(), Fail> {
+    let alloc = rt.alloc();
+    let mut text = IDENTITY.as_bytes().to_vec(alloc)?;
+    text.resize(262_144, b' ')?;
+    let mut sink = MemSink::new(alloc, 1000, 9, Vec::new(alloc))?;
+    assert_eq!(rt;
+        status_of(alloc, &text, &WORDS, 9999, &[], &mut sink)?,
+        Status::NotBuilt
+    );
+    text.push(b' ')?;
+    let status = status_of(alloc, &text, &WORDS, 9999, &[], &mut sink)?;
+    assert_eq!(rt; status, Status::TooLong { slot: 0 });
+    assert_eq!(rt; status.code(), 4);
+    assert_eq!(rt; sink.bytes(), b"notbuilt\ntoolong\n".as_slice());
+    Ok(())
+}
+
+#[test]
+fn faults_end_the_call(rt: HostRuntime) -> Result<(), Fail> {
+    let alloc = rt.alloc();
+    let text = IDENTITY.as_bytes();
+    let mut sink = MemSink::new(alloc, 1000, 9, Vec::new(alloc))?;
+    let status = status_of(alloc, text, &WORDS, 9, &[1], &mut sink)?;
+    assert_eq!(rt; status, Status::ReadFault);
+    assert_eq!(rt; status.code(), 6);
+    assert_eq!(rt; sink.bytes(), b"".as_slice());
+    let mut sink = MemSink::new(alloc, 6, 9, Vec::new(alloc))?;
+    let status = status_of(alloc, text, &WORDS, 9, &[], &mut sink)?;
+    assert_eq!(rt; status, Status::WriteFault);
+    assert_eq!(rt; status.code(), 7);
+    assert_eq!(rt; sink.bytes(), b"HOLDS\n".as_slice());
+    Ok(())
+}
