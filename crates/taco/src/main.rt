@@ -3,16 +3,16 @@
 #![tactic(auto)]
 
 use std::alloc::Global;
-use std::env;
-use std::io;
 use std::process::ExitCode;
 use std::rt::Env;
+use std::{env, io};
 use taco_io::{RealFiles, RealSink};
 use taco_run::run;
 
 /// The status where the system gives no words for want of memory, and where it gives none for
 /// another cause.
 const NO_MEMORY: u8 = 8;
+
 const NO_WORDS: u8 = 9;
 
 /// The status that such an error means.
@@ -56,7 +56,11 @@ fn status(rt: &HostRuntime) -> Result<u8, u8> {
     let words = lent(alloc, words.as_slice())?;
     let mut files = RealFiles::new(alloc, rt);
     let mut sink = RealSink::new(io::writer(rt));
-    Ok(run(alloc, words.as_slice(), &mut files, &mut sink).status.code())
+    Ok(
+        run(alloc, words.as_slice(), &mut files, &mut sink)
+            .status
+            .code(),
+    )
 }
 
 fn main(rt: HostRuntime) -> ExitCode {

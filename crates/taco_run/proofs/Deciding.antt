@@ -1,8 +1,7 @@
 -- From a check of a unit to the table.
-use Rattle.std.proofs.Common.{◌≡◌, ◌≢◌, ℕ, ◌≤◌, List, length, Option, Some, None, refl, subst}
+use Rattle.std.proofs.Common.{◌≡◌, ◌≢◌, ℕ, ◌≤◌, List, length, Some, refl, subst}
 use Rattle.taco_unit.specs.Parts.{Parts}
-use Rattle.heap_core.specs.Posed.{Posed}
-use Rattle.thin_reader.specs.Units.{unit_of, Reads}
+use Rattle.thin_reader.specs.Units.{unit_of}
 use Rattle.taco_run.specs.declared.answer.Status.{Status}
 use Rattle.taco_run.specs.declared.answer.Status.TheVariants as status
 use Rattle.taco_run.specs.declared.check.Outcome.{Outcome}

@@ -1,5 +1,5 @@
 -- Texts that were added one behind the other.
-use Rattle.std.proofs.Common.{◌≡◌, ℕ, List, [], ◌++◌, refl, sym, ap, ◌∙◌, append_assoc}
+use Rattle.std.proofs.Common.{◌≡◌, ℕ, List, ◌++◌, ap, ◌∙◌, append_assoc}
 
 -- three, behind what was there
 pub three_added : (old one two all first second third : List ℕ) → one ≡ old ++ first → two ≡ one ++ second → all ≡ two ++ third → all ≡ old ++ (first ++ second ++ third)

@@ -1,5 +1,5 @@
 -- The steps of a call, joined.
-use Rattle.std.proofs.Common.{◌≡◌, ◌≢◌, ℕ, ◌+◌, ◌<◌, ◌≤◌, List, [], length, Option, Some, None, IfSome, refl, sym, ap, ◌∙◌, subst, arith}
+use Rattle.std.proofs.Common.{◌≡◌, ◌≢◌, ℕ, ◌<◌, List, [], length, Option, Some, None, IfSome, refl, sym, ap, ◌∙◌, subst, arith}
 use Rattle.std.specs.Prelude.{◌⊎◌, Result, Ok, Err, Vec, IfOk}
 use Rattle.std.proofs.Common.{inl, inr}
 use Rattle.no_memory.specs.declared.NoMemory.{NoMemory}

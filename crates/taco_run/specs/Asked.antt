@@ -1,8 +1,7 @@
 -- What the words of a command line ask for.
-use Rattle.std.specs.Prelude.{◌≡◌, ℕ, ◌==◌, ◌&&◌, Bool, true, false, not, List, [], ◌∷◌, Option, Some, None, Result, Ok, Err, bytes_eq, codes, if◌then◌else◌}
+use Rattle.std.specs.Prelude.{◌≡◌, ℕ, ◌==◌, ◌&&◌, Bool, false, not, List, [], ◌∷◌, Option, Some, None, Result, Ok, Err, bytes_eq, codes, if◌then◌else◌}
 use Rattle.heap_core.specs.declared.problem.Scope.{Scope}
 use Rattle.heap_core.specs.declared.problem.Plan.{Plan}
-use Rattle.taco_run.specs.declared.request.Job.{Job}
 use Rattle.taco_run.specs.declared.request.Request.{Request}
 use Rattle.taco_run.specs.declared.request.Request.TheVariants as request
 use Rattle.taco_run.specs.declared.request.RequestFault.{RequestFault}

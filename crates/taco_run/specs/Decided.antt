@@ -1,7 +1,6 @@
 -- What a check comes to, once its text is read.
-use Rattle.std.specs.Prelude.{◌≡◌, ◌≢◌, ℕ, List, Option, Some, None, codes}
+use Rattle.std.specs.Prelude.{◌≡◌, ◌≢◌, ℕ, List, Some, codes}
 use Rattle.taco_unit.specs.Parts.{Parts}
-use Rattle.taco_unit.specs.Named.{class_number, method_number}
 use Rattle.heap_core.specs.declared.start.Start.{Start}
 use Rattle.heap_core.specs.declared.judged.Part.{Part}
 use Rattle.heap_core.specs.Posed.{Posed}

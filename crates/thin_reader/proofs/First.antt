@@ -1,5 +1,5 @@
 -- The first token of a line, and the first line of a text.
-use Rattle.std.proofs.Common.{◌≡◌, ℕ, suc, ◌+◌, ◌<◌, Bool, true, false, List, [], ◌∷◌, length, take, drop, Option, Some, None, option_map, option_and_then, refl, sym, ap, ◌∙◌, arith, nat_eq, get_or, ◌≢◌, one-add, add-one, ne_eqb}
+use Rattle.std.proofs.Common.{◌≡◌, ℕ, suc, ◌+◌, ◌<◌, Bool, true, false, List, [], ◌∷◌, length, take, drop, Option, Some, None, option_map, option_and_then, refl, sym, ◌∙◌, arith, nat_eq, get_or, ◌≢◌, one-add, add-one, ne_eqb}
 use Rattle.std.proofs.lemmas.Grind.{common_steps}
 use Rattle.std.specs.Prelude.{if◌then◌else◌}
 use Rattle.thin_reader.specs.Tokens.{Text, joins, with_byte, tokens_of, run_of}
@@ -15,11 +15,10 @@ with_next : (a b : ℕ) (bs : Text) (j : Bool) → joins a b ≡ j
     → with_byte a (b ∷ bs) (tokens_of (b ∷ bs)) ≡ (a ∷ take (if j then suc (run_of b bs) else 0) (b ∷ bs)) ∷ tokens_of (drop (if j then suc (run_of b bs) else 0) (b ∷ bs))
 with_next a b bs true joined next = rw (next (joined_no_space a b joined)) (rw joined refl)
 with_next a b bs false joined next = with_none (tokens_of (b ∷ bs))
-
   where
-  with_none : (ts : List Text) → with_byte a (b ∷ bs) ts ≡ (a ∷ []) ∷ ts
-  with_none [] = refl
-  with_none (t ∷ ts) = rw joined refl
+    with_none : (ts : List Text) → with_byte a (b ∷ bs) ts ≡ (a ∷ []) ∷ ts
+    with_none [] = refl
+    with_none (t ∷ ts) = rw joined refl
 
 -- where the line does not begin with a space
 pub first_token : (b : ℕ) (bs : Text) → nat_eq b 32 ≡ false → tokens_of (b ∷ bs) ≡ (b ∷ take (run_of b bs) bs) ∷ tokens_of (drop (run_of b bs) bs)

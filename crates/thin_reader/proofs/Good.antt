@@ -1,20 +1,17 @@
 -- What the values of this form are: conditions over the parameters, and plain.
-use Rattle.std.proofs.Common.{◌≡◌, ℕ, zero, suc, ◌+◌, ◌<◌, ◌≤◌, Bool, true, false, List, [], ◌∷◌, length, map, Option, Some, None, refl, sym, ap, ◌∙◌, subst, arith, bytes_eq, codes, lt-ltb}
-use Rattle.std.specs.Prelude.{◌&&◌, nat_lt, slice_get, option_map, option_and_then, if◌then◌else◌}
-use Rattle.std.specs.List.{list_all, position_from}
-use Rattle.taco_unit.specs.declared.kind.Kind.{Kind}
+use Rattle.std.proofs.Common.{◌≡◌, ℕ, zero, suc, ◌+◌, ◌<◌, Bool, true, false, List, [], ◌∷◌, length, Option, Some, None, refl, ◌∙◌, subst, arith, bytes_eq, codes, lt-ltb}
+use Rattle.std.specs.Prelude.{◌&&◌, slice_get, option_map, option_and_then, if◌then◌else◌}
+use Rattle.std.specs.List.{position_from}
 use Rattle.taco_unit.specs.declared.kind.Kind.TheVariants as kind
 use Rattle.taco_unit.specs.declared.expr.Op.TheVariants as op
 use Rattle.taco_unit.specs.declared.expr.Expr.{Expr}
 use Rattle.taco_unit.specs.declared.expr.Expr.TheVariants as e
-use Rattle.taco_unit.specs.declared.unit.Clause.{Clause}
-use Rattle.taco_unit.specs.Kinds.{Around, Form, Code, Entry, Exit, Of, sort_of}
+use Rattle.taco_unit.specs.Kinds.{Form, Entry, Exit}
 use Rattle.taco_unit.proofs.KindForms.{sort_flag, sort_local, sort_result, sort_bin}
-use Rattle.boolean_trial.specs.Plain.{is_plain}
 use Rattle.boolean_trial.proofs.Forms.{plain_flag, plain_local, plain_result, plain_bin}
 use Rattle.thin_reader.specs.declared.clauses.Clauses.{Clauses}
 use Rattle.thin_reader.specs.Tokens.{Text, tokens_of}
-use Rattle.thin_reader.specs.Good.{flags, Stands, Good, AllGood, none_left, one_more, GoodClauses}
+use Rattle.thin_reader.specs.Good.{flags, Good, none_left, one_more, GoodClauses}
 use Rattle.thin_reader.specs.Values.{single_of, compared_of}
 use Rattle.thin_reader.specs.Clauses.{keyword_of, single_clause_of, compared_clause_of, clause_of, with_clause, clauses_of}
 
@@ -51,11 +48,10 @@ same_good params form a b left right =
 place_within : (test : Text → Bool) (n : ℕ) (xs : List Text) (i : ℕ) → position_from test n xs ≡ Some i → i < n + length xs
 place_within test n [] i is = absurd (cc)
 place_within test n (x ∷ xs) i is = by_test (test x) refl (place_within test (n + 1) xs i)
-
   where
-  by_test : (b : Bool) → test x ≡ b → (position_from test (n + 1) xs ≡ Some i → i < (n + 1) + length xs) → i < n + length (x ∷ xs)
-  by_test true hit rest = let here : Some n ≡ Some i = rw hit at is in let same : n ≡ i = cc in omega arith
-  by_test false hit rest = let there : position_from test (n + 1) xs ≡ Some i = rw hit at is in let bound = rest there in omega arith
+    by_test : (b : Bool) → test x ≡ b → (position_from test (n + 1) xs ≡ Some i → i < (n + 1) + length xs) → i < n + length (x ∷ xs)
+    by_test true hit rest = let here : Some n ≡ Some i = rw hit at is in let same : n ≡ i = cc in omega arith
+    by_test false hit rest = let there : position_from test (n + 1) xs ≡ Some i = rw hit at is in let bound = rest there in omega arith
 
 -- by the tests of the token
 single_by : (params : List Text) (form : Form) (t f r : Bool) (place : Option ℕ) (a : Expr) → (r ≡ true → form ≡ Exit) → ((i : ℕ) → place ≡ Some i → i < length params)
@@ -105,14 +101,13 @@ keyed_good : (params : List Text) (keyword : Option Bool) (value : Bool → Opti
     → option_and_then (λ k. option_map (λ a. (k, a)) (value k)) keyword ≡ Some c → Good params (form_of c.0) c.1
 keyed_good params None value c goods is = absurd (cc)
 keyed_good params (Some k) value c goods is = by_value k (value k) c (goods k) is
-
   where
-  by_value : (j : Bool) (found : Option Expr) (d : Bool × Expr) → ((a : Expr) → found ≡ Some a → Good params (form_of j) a) → option_map (λ a. (j, a)) found ≡ Some d → Good params (form_of d.0) d.1
-  by_value j None d good is' = absurd (cc)
-  by_value j (Some a) d good is' =
-      let pair : Bool × Expr = (j, a) in
-      let same : pair ≡ d = cc in
-      subst (λ q. Good params (form_of q.0) q.1) same (good a refl)
+    by_value : (j : Bool) (found : Option Expr) (d : Bool × Expr) → ((a : Expr) → found ≡ Some a → Good params (form_of j) a) → option_map (λ a. (j, a)) found ≡ Some d → Good params (form_of d.0) d.1
+    by_value j None d good is' = absurd (cc)
+    by_value j (Some a) d good is' =
+        let pair : Bool × Expr = (j, a) in
+        let same : pair ≡ d = cc in
+        subst (λ q. Good params (form_of q.0) q.1) same (good a refl)
 
 clause_by_marks : (params : List Text) (marks : Bool) (found : Option (Bool × Expr)) (c : Bool × Expr) → (found ≡ Some c → Good params (form_of c.0) c.1)
     → (if marks then found else None) ≡ Some c → Good params (form_of c.0) c.1

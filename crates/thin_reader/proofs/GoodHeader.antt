@@ -1,9 +1,9 @@
 -- What the names and the value of a method's line are.
-use Rattle.std.proofs.Common.{◌≡◌, ℕ, ◌≤◌, Bool, true, false, List, [], ◌∷◌, length, take, drop, Option, Some, None, refl, sym, ap, ◌∙◌, subst, arith, bytes_eq, codes}
-use Rattle.std.specs.Prelude.{◌&&◌, not, nat_le, option_map, option_and_then, if◌then◌else◌}
-use Rattle.std.specs.List.{list_any, list_all}
+use Rattle.std.proofs.Common.{◌≡◌, Bool, true, false, List, [], ◌∷◌, length, take, drop, Option, Some, None, refl, subst, bytes_eq, codes}
+use Rattle.std.specs.Prelude.{◌&&◌, nat_le, option_map, option_and_then, if◌then◌else◌}
+use Rattle.std.specs.List.{list_all}
 use Rattle.taco_unit.specs.declared.expr.Expr.{Expr}
-use Rattle.taco_unit.specs.Kinds.{Form, Code}
+use Rattle.taco_unit.specs.Kinds.{Code}
 use Rattle.taco_unit.specs.Words.{is_word}
 use Rattle.thin_reader.specs.declared.headers.Header.{Header}
 use Rattle.thin_reader.specs.Tokens.{Text}
@@ -60,15 +60,14 @@ method_word (a ∷ b ∷ c ∷ d ∷ f ∷ more) name is = absurd (cc)
 -- of the three tokens of a parameter
 param_word : (kind name sign : Text) (p : Text × Bool) → param_of (kind ∷ name ∷ sign ∷ []) ≡ Some p → is_word p.0 ≡ true
 param_word kind name sign p is = by_test (bytes_eq kind (codes "boolean") && is_name name) refl (last_of sign) is
-
   where
-  by_test : (test : Bool) → (bytes_eq kind (codes "boolean") && is_name name) ≡ test → (last : Option Bool) → (if test then option_map (λ b. (name, b)) last else None) ≡ Some p → is_word p.0 ≡ true
-  by_test true tests None is' = absurd (cc)
-  by_test true tests (Some b) is' =
-      let pair : Text × Bool = (name, b) in
-      let same : pair ≡ p = cc in
-      subst (λ q. is_word q.0 ≡ true) same (word_of_name name (both (bytes_eq kind (codes "boolean")) (is_name name) tests).second)
-  by_test false tests last is' = absurd (cc)
+    by_test : (test : Bool) → (bytes_eq kind (codes "boolean") && is_name name) ≡ test → (last : Option Bool) → (if test then option_map (λ b. (name, b)) last else None) ≡ Some p → is_word p.0 ≡ true
+    by_test true tests None is' = absurd (cc)
+    by_test true tests (Some b) is' =
+        let pair : Text × Bool = (name, b) in
+        let same : pair ≡ p = cc in
+        subst (λ q. is_word q.0 ≡ true) same (word_of_name name (both (bytes_eq kind (codes "boolean")) (is_name name) tests).second)
+    by_test false tests last is' = absurd (cc)
 
 pub record AreWords (params : Params) : Type 0 where
   pub words : list_all is_word params.names ≡ true
@@ -95,14 +94,13 @@ some_words (kind ∷ name ∷ sign ∷ rest) params is =
 params_words : (tokens : List Text) (params : Params) → params_of tokens ≡ Some params → AreWords params
 params_words [] params is = absurd (cc)
 params_words (sign ∷ rest) params is = by_close (is_close (sign ∷ [])) is
-
   where
-  by_close : (close : Bool) → (if close then Some (record { names = []; behind = rest }) else some_params (sign ∷ rest)) ≡ Some params → AreWords params
-  by_close true is' =
-      let none : Params = record { names = []; behind = rest } in
-      let same : none ≡ params = cc in
-      subst AreWords same (record { words = refl })
-  by_close false is' = some_words (sign ∷ rest) params is'
+    by_close : (close : Bool) → (if close then Some (record { names = []; behind = rest }) else some_params (sign ∷ rest)) ≡ Some params → AreWords params
+    by_close true is' =
+        let none : Params = record { names = []; behind = rest } in
+        let same : none ≡ params = cc in
+        subst AreWords same (record { words = refl })
+    by_close false is' = some_words (sign ∷ rest) params is'
 
 returned_by : (params : List Text) (around : Bool) (found : Option Expr) (value : Expr) → (found ≡ Some value → Good params Code value) → (if around then found else None) ≡ Some value
     → Good params Code value
@@ -125,17 +123,16 @@ returned_good params (a ∷ b ∷ c ∷ d ∷ f ∷ g ∷ h ∷ i ∷ more) valu
 behind_good : (name : Text) (found : Option Params) (h : Header) → is_word name ≡ true → ((q : Params) → found ≡ Some q → AreWords q) → header_behind name found ≡ Some h → GoodHeader h
 behind_good name None h word words is = absurd (cc)
 behind_good name (Some q) h word words is = by_tests (nat_le (length q.names) 8 && is_distinct q.names) refl (returned_of q.names q.behind) (returned_good q.names q.behind) is
-
   where
-  by_tests : (test : Bool) → (nat_le (length q.names) 8 && is_distinct q.names) ≡ test → (value : Option Expr) → ((v : Expr) → value ≡ Some v → Good q.names Code v)
-      → (if test then option_map (λ v. record { name = name; params = q.names; value = v }) value else None) ≡ Some h → GoodHeader h
-  by_tests true tests None good is' = absurd (cc)
-  by_tests true tests (Some v) good is' =
-      let made : Header = record { name = name; params = q.names; value = v } in
-      let same : made ≡ h = cc in
-      let parts = both (nat_le (length q.names) 8) (is_distinct q.names) tests in
-      subst GoodHeader same (record { name = word; params = (words q refl).words; few = parts.first; distinct = parts.second; value = good v refl })
-  by_tests false tests value good is' = absurd (cc)
+    by_tests : (test : Bool) → (nat_le (length q.names) 8 && is_distinct q.names) ≡ test → (value : Option Expr) → ((v : Expr) → value ≡ Some v → Good q.names Code v)
+        → (if test then option_map (λ v. record { name = name; params = q.names; value = v }) value else None) ≡ Some h → GoodHeader h
+    by_tests true tests None good is' = absurd (cc)
+    by_tests true tests (Some v) good is' =
+        let made : Header = record { name = name; params = q.names; value = v } in
+        let same : made ≡ h = cc in
+        let parts = both (nat_le (length q.names) 8) (is_distinct q.names) tests in
+        subst GoodHeader same (record { name = word; params = (words q refl).words; few = parts.first; distinct = parts.second; value = good v refl })
+    by_tests false tests value good is' = absurd (cc)
 
 header_from : (name : Option Text) (found : Option Params) (h : Header) → ((n : Text) → name ≡ Some n → is_word n ≡ true) → ((q : Params) → found ≡ Some q → AreWords q)
     → option_and_then (λ n. header_behind n found) name ≡ Some h → GoodHeader h

@@ -1,5 +1,5 @@
 -- Lists of tokens by their lengths.
-use Rattle.std.proofs.Common.{◌≡◌, ◌≢◌, ℕ, ◌<◌, ◌≤◌, ◌+◌, Bool, true, false, List, [], ◌∷◌, ◌++◌, length, map, take, drop, Option, None, Some, option_map, option_and_then, refl, sym, ap, ◌∙◌, arith, append_assoc, length-drop, if◌then◌else◌}
+use Rattle.std.proofs.Common.{◌≡◌, ◌≢◌, ℕ, ◌<◌, ◌≤◌, ◌+◌, false, List, [], ◌∷◌, ◌++◌, length, map, take, drop, Option, None, Some, option_map, option_and_then, refl, sym, ap, ◌∙◌, arith, append_assoc, length-drop, if◌then◌else◌}
 use Rattle.std.proofs.lemmas.List.{drop-drop, drop-map}
 use Rattle.std.proofs.lemmas.Option.{slice_get-map}
 use Rattle.std.specs.List.{take-map}
@@ -69,8 +69,8 @@ one_param_more f ts left front rest names more whole name at so_far room is_left
     let next : map f (drop (at + 3) ts) ≡ map f rest = ap (map f) (sym (drop-drop 3 at ts) ∙ ap (drop 3) (sym is_left) ∙ sym is_rest) in
     record {
       same = rw (is_more, next) (with_one_more names name (some_params (map f rest))
-        ∙ ap (option_map (with_names names)) (ap (λ p. params_from p (map f rest) (some_params (map f rest))) is_param ∙ sym (some_params_at f left front rest many is_front is_rest))
-        ∙ ap (λ l. option_map (with_names names) (some_params (map f l))) is_left ∙ so_far.same);
+          ∙ ap (option_map (with_names names)) (ap (λ p. params_from p (map f rest) (some_params (map f rest))) is_param ∙ sym (some_params_at f left front rest many is_front is_rest))
+          ∙ ap (λ l. option_map (with_names names) (some_params (map f l))) is_left ∙ so_far.same);
     }
 
 pub no_param_more : {A : Type 0} (f : A → Text) (ts : List A) (names whole : List Text) (at : ℕ) → NamesSoFar names (map f (drop at ts)) whole

@@ -1,30 +1,27 @@
 -- The unit of a text of this form is well kinded and plain.
-use Rattle.std.proofs.Common.{◌≡◌, ◌≢◌, ℕ, zero, suc, ◌+◌, ◌<◌, ◌≤◌, Bool, true, false, List, [], ◌∷◌, ◌++◌, length, map, Option, Some, None, refl, sym, ap, ◌∙◌, subst, arith, bytes_eq, append-nil}
+use Rattle.std.proofs.Common.{◌≡◌, ◌≢◌, ℕ, zero, suc, ◌<◌, Bool, true, false, List, [], ◌∷◌, ◌++◌, length, map, Some, refl, sym, ap, ◌∙◌, subst, arith, bytes_eq, append-nil}
 use borrow.Author.Tests.{leb-true}
 use Rattle.std.proofs.lemmas.Slice.Eq.{bytes_eq-Decides}
-use Rattle.std.specs.Prelude.{◌&&◌, ◌||◌, not, nat_le, slice_get, slice_index_or, AllPairs, IsTrue}
+use Rattle.std.specs.Prelude.{◌||◌, not, nat_le, slice_get, slice_index_or, AllPairs}
 use Rattle.std.specs.List.{list_any, list_all}
-use Rattle.taco_unit.specs.declared.kind.Kind.{Kind}
 use Rattle.taco_unit.specs.declared.kind.Kind.TheVariants as kind
-use Rattle.taco_unit.specs.declared.expr.Expr.{Expr}
 use Rattle.taco_unit.specs.declared.stmt.Stmt.TheVariants as s
 use Rattle.taco_unit.specs.declared.unit.Clause.{Clause}
 use Rattle.taco_unit.specs.declared.unit.ClassDef.{ClassDef}
-use Rattle.taco_unit.specs.declared.unit.FieldDef.{FieldDef}
 use Rattle.taco_unit.specs.declared.unit.MethodDef.{MethodDef}
 use Rattle.taco_unit.specs.declared.unit.ParamDef.{ParamDef}
 use Rattle.taco_unit.specs.Parts.{Parts}
 use Rattle.taco_unit.specs.Words.{is_word}
 use Rattle.taco_unit.specs.Kinds.{Around, Form, Code, Entry, Exit, is_kind_of, same_kind}
-use Rattle.taco_unit.specs.Well.{IsWell, IsWellClass, IsWellField, IsWellMethod, are_conditions, around_method, param_kinds}
+use Rattle.taco_unit.specs.Well.{IsWell, IsWellClass, IsWellMethod, are_conditions, around_method, param_kinds}
 use Rattle.taco_unit.proofs.KindForms.{fitting_return}
-use Rattle.boolean_trial.specs.Plain.{is_plain, are_plain, IsPlainMethod, IsPlain}
+use Rattle.boolean_trial.specs.Plain.{are_plain, IsPlain}
 use Rattle.thin_reader.specs.declared.clauses.Clauses.{Clauses}
 use Rattle.thin_reader.specs.declared.headers.Header.{Header}
 use Rattle.thin_reader.specs.Tokens.{Text}
 use Rattle.thin_reader.specs.Names.{is_distinct}
-use Rattle.thin_reader.specs.Units.{param_of, parts_of, are_few}
-use Rattle.thin_reader.specs.Good.{Good, flags, Stands, AllGood, none_left, one_more, GoodClauses, GoodHeader, GoodParts, AllPlain}
+use Rattle.thin_reader.specs.Units.{param_of, parts_of}
+use Rattle.thin_reader.specs.Good.{flags, Stands, AllGood, none_left, one_more, GoodParts, AllPlain}
 use Rattle.thin_reader.proofs.GoodHeader.{both}
 
 kinds_are : (names : List Text) → map (λ p. p.kind) (map param_of names) ≡ flags names
@@ -66,11 +63,10 @@ not_among name (n ∷ names) none zero d within same =
     let taken : not (true || list_any (λ other. bytes_eq other name) names) ≡ true = rw equal at none in
     cc
 not_among name (n ∷ names) none (suc j) d within same = not_among name names (right_none (bytes_eq n name) _ none) j d (omega arith) same
-
   where
-  right_none : (a b : Bool) → not (a || b) ≡ true → not b ≡ true
-  right_none true b is = absurd (cc)
-  right_none false b is = is
+    right_none : (a b : Bool) → not (a || b) ≡ true → not b ≡ true
+    right_none true b is = absurd (cc)
+    right_none false b is = is
 
 pub apart : (names : List Text) → is_distinct names ≡ true → AllPairs (λ p q. p.name ≢ q.name) (map param_of names)
 apart [] distinct i j d before within = absurd (omega arith)

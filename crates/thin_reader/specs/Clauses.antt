@@ -1,5 +1,5 @@
 -- The lines of clauses, `//@ requires X;` and `//@ ensures X;`.
-use Rattle.std.specs.Prelude.{ℕ, ◌&&◌, Bool, true, false, List, [], ◌∷◌, Option, Some, None, option_map, option_and_then, bytes_eq, codes, if◌then◌else◌}
+use Rattle.std.specs.Prelude.{◌&&◌, Bool, true, false, List, [], ◌∷◌, Option, Some, None, option_map, option_and_then, bytes_eq, codes, if◌then◌else◌}
 use Rattle.taco_unit.specs.declared.expr.Expr.{Expr}
 use Rattle.thin_reader.specs.declared.clauses.Clauses.{Clauses}
 use Rattle.thin_reader.specs.Tokens.{Text, tokens_of}

@@ -1,6 +1,6 @@
 -- The line of the class, `class NAME {`, and that of the method,
 -- `static boolean NAME(boolean NAME, ..) { return X; }`.
-use Rattle.std.specs.Prelude.{ℕ, ◌&&◌, nat_le, Bool, true, false, List, [], ◌∷◌, length, map, take, drop, Option, Some, None, option_map, option_and_then, bytes_eq, codes, if◌then◌else◌}
+use Rattle.std.specs.Prelude.{◌&&◌, nat_le, Bool, true, false, List, [], ◌∷◌, length, map, take, drop, Option, Some, None, option_map, option_and_then, bytes_eq, codes, if◌then◌else◌}
 use Rattle.taco_unit.specs.declared.expr.Expr.{Expr}
 use Rattle.thin_reader.specs.declared.headers.Header.{Header}
 use Rattle.thin_reader.specs.declared.headers.ReadParams.{ReadParams}

@@ -1,5 +1,5 @@
 -- Names.
-use Rattle.std.specs.Prelude.{◌&&◌, ◌||◌, Bool, true, false, not, List, [], ◌∷◌, bytes_eq}
+use Rattle.std.specs.Prelude.{◌&&◌, Bool, true, not, List, [], ◌∷◌, bytes_eq}
 use Rattle.std.specs.List.{list_any}
 use Rattle.taco_unit.specs.Words.{is_word}
 use Rattle.thin_reader.specs.declared.names.TheConstants.{RESERVED}

@@ -143,10 +143,7 @@ fn are_close(tokens: &[&[u8]]) -> bool
 
 /// Parameters and `)`.
 #[tactic(auto, using(crate::proofs::Shapes::params_of_at))]
-fn parameters<'t>(
-    alloc: Global,
-    tokens: &'t [&'t [u8]],
-) -> Result<Option<ReadParams<'t>>, NoMemory>
+fn parameters<'t>(alloc: Global, tokens: &'t [&'t [u8]]) -> Result<Option<ReadParams<'t>>, NoMemory>
     ensures { IfOk result (λ found. option_map params_view found ≡ params_of (map (λ t. t.now) tokens.now)) }
 {
     if tokens.is_empty() {
@@ -170,11 +167,7 @@ fn are_around_value(brace: &[u8], word: &[u8], end: &[u8], close: &[u8]) -> bool
 }
 
 /// The value of `{ return X; }`.
-fn returned(
-    alloc: Global,
-    params: &[Name],
-    tokens: &[&[u8]],
-) -> Result<Option<Expr>, NoMemory>
+fn returned(alloc: Global, params: &[Name], tokens: &[&[u8]]) -> Result<Option<Expr>, NoMemory>
     requires { length params.now ≤ 8 }
     ensures { IfOk result (λ found. found ≡ returned_of params.now (map (λ t. t.now) tokens.now)) }
 {
@@ -217,11 +210,7 @@ fn are_distinct(names: &[Name]) -> bool
 }
 
 /// The method whose name this is, of the tokens behind its `(`.
-fn header_behind(
-    alloc: Global,
-    name: Name,
-    tokens: &[&[u8]],
-) -> Result<Option<Header>, NoMemory>
+fn header_behind(alloc: Global, name: Name, tokens: &[&[u8]]) -> Result<Option<Header>, NoMemory>
     ensures { IfOk result (λ found. found ≡ header_behind_lem name (params_of (map (λ t. t.now) tokens.now))) }
 {
     let Some(params) = parameters(alloc, tokens)? else {

@@ -15,11 +15,7 @@ use taco_unit::{ClassDef, Kind, MethodDef, Name, ParamDef, Stmt, Unit};
 
 /// The tokens of the line of this number, counted from 0; none where there is no such line.
 #[tactic(auto, using(crate::proofs::Shapes::maps))]
-fn tokens_at<'t>(
-    alloc: Global,
-    lines: &[&'t [u8]],
-    at: usize,
-) -> Result<Vec<&'t [u8]>, NoMemory>
+fn tokens_at<'t>(alloc: Global, lines: &[&'t [u8]], at: usize) -> Result<Vec<&'t [u8]>, NoMemory>
     ensures { IfOk result (λ tokens. map (λ t. t.now) tokens.items ≡ line_tokens (map (λ l. l.now) lines.now) at) }
 {
     match lines.get(at) {
@@ -55,12 +51,7 @@ fn parameters(alloc: Global, names: &[Name]) -> Result<Items<ParamDef>, NoMemory
 }
 
 /// The unit of one class with one static method.
-fn make_unit(
-    alloc: Global,
-    class: Name,
-    header: Header,
-    clauses: Clauses,
-) -> Result<Unit, NoMemory>
+fn make_unit(alloc: Global, class: Name, header: Header, clauses: Clauses) -> Result<Unit, NoMemory>
     requires { GoodParts class header clauses }
     ensures made { IfOk result (λ unit. unit ≡ parts_of class header clauses) }
     ensures plain { IfOk result (λ unit. AllPlain unit) }

@@ -1,4 +1,4 @@
-use Rattle.std.proofs.Common.{◌≡◌, Some, sym, ◌∙◌}
+use Rattle.std.proofs.Common.{◌≡◌, Some}
 use Rattle.boolean_trial.proofs.Found.{if_ok_more}
 use Rattle.thin_reader.specs.Units.{unit_of}
 use Rattle.taco_run.specs.Decided.{Checks, Decides}

@@ -1,4 +1,3 @@
-use Rattle.std.specs.Prelude.{Option, Some, MatchOption}
 use Rattle.heap_core.specs.Posed.{Posed}
 use Rattle.taco_run.proofs.Plainly.{no_heap}
 use Rattle.taco_run.proofs.check.try_method.Goals as goal

@@ -1,4 +1,4 @@
-use Rattle.std.proofs.Common.{◌≡◌, ◌++◌, List, [], ℕ, min, length, drop, flat_map, sym, ap, ◌∙◌, arith, append-nil}
+use Rattle.std.proofs.Common.{◌≡◌, ◌++◌, List, [], ℕ, drop, flat_map, sym, ap, ◌∙◌, arith, append-nil}
 use Rattle.std.specs.Prelude.{zip}
 use Rattle.taco_unit.specs.declared.unit.ParamDef.{ParamDef}
 use Rattle.heap_core.specs.declared.value.Value.{Value}

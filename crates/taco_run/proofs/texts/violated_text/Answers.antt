@@ -1,6 +1,6 @@
-use Rattle.std.proofs.Common.{◌≡◌, ◌++◌, List, ℕ, [], codes, refl, ap, ◌∙◌, sym, subst}
+use Rattle.std.proofs.Common.{◌≡◌, ◌++◌, List, ℕ, codes, ap, ◌∙◌, subst}
 use Rattle.heap_core.specs.Posed.{Posed}
-use Rattle.taco_run.specs.Texts.{plain_state, params_of, state_text, broken_line, scope_line, counts_line, no_tuples, violated_report}
+use Rattle.taco_run.specs.Texts.{plain_state, state_text, broken_line, scope_line, counts_line, no_tuples}
 use Rattle.taco_run.proofs.Joined.{two_added}
 use Rattle.taco_run.proofs.Plainly.{plain_state_is}
 use Rattle.taco_run.proofs.texts.violated_text.Goals as goal

@@ -1,5 +1,4 @@
 use Rattle.std.proofs.Common.{◌≡◌, ◌++◌, map, drop, option_map}
-use Rattle.thin_reader.specs.declared.clauses.Clauses.{Clauses}
 use Rattle.thin_reader.specs.Clauses.{clauses_of}
 use Rattle.thin_reader.proofs.clauses.read_clauses.Given as goal
 

@@ -19,5 +19,5 @@ loop-at-preserved c =
     record {
       within = omega arith;
       left = one_param_more f c.args.tokens.now left front rest c.loop-at.names c.push.new.self (map f c.args.tokens.now) c.in-Some.name c.loop-at.at c.loop-at.invariant.left (omega arith)
-        c.split_at.ensures.back c.split_at-in-loop-at.ensures.front c.split_at-in-loop-at.ensures.back is_param more;
+          c.split_at.ensures.back c.split_at-in-loop-at.ensures.front c.split_at-in-loop-at.ensures.back is_param more;
     }
