@@ -2,8 +2,10 @@
 #![tactic(auto)]
 
 mod order;
+mod numbering;
 mod roots;
 mod tuple;
 
 pub use order::is_canonical;
+pub use numbering::renumber;
 pub use tuple::{Tuple, occurs, tuple_at, tuple_count};
