@@ -50,7 +50,13 @@ fn all_renamed(alloc: Global, order: &[u8], values: &[Value]) -> Result<Items<Va
 }
 
 /// The object of this number, under the new numbers, behind those that were taken.
-fn push_renamed(alloc: Global, order: &[u8], objects: &[Object], object: u8, all: &mut Items<Object>) -> Result<(), NoMemory>
+fn push_renamed(
+    alloc: Global,
+    order: &[u8],
+    objects: &[Object],
+    object: u8,
+    all: &mut Items<Object>,
+) -> Result<(), NoMemory>
     requires { length order.now ≤ 12 }
     ensures { OnOk result (all.new ≡ all.old ++ option_to_list (option_map (renamed_object_lem order.now) (slice_get objects.now object))) }
 {
@@ -79,11 +85,18 @@ fn reordered(alloc: Global, order: &[u8], objects: &[Object]) -> Result<Items<Ob
 
 /// The start under the numbering of a list that holds each object once: the object `order[i]` becomes
 /// the object i. It goes along the order once for each value of the start.
-pub fn renumber(alloc: Global, start: &Start, order: &[u8], _problem: &Problem) -> Result<Start, NoMemory>
-    requires fits { Fits start.now _problem.now }
+pub fn renumber(
+    alloc: Global,
+    start: &Start,
+    order: &[u8],
+    problem: &Problem,
+) -> Result<Start, NoMemory>
+    requires fits { Fits start.now problem.now }
     requires each_once { HoldsEachOnce order.now (length start.now.objects) }
     ensures { IfOk result (λ t. t ≡ renumbered start.now order.now) }
 {
+    // the problem's own bound, that there are at most 12 objects, is known once a field is read
+    let _scope = problem.scope;
     let objects = reordered(alloc, order, start.objects.as_slice())?;
     let args = all_renamed(alloc, order, start.args.as_slice())?;
     Ok(Start {
