@@ -1,4 +1,4 @@
-use Rattle.std.proofs.Common.{◌≡◌, ◌++◌, ◌∙◌, ap, sym, get_or, List}
+use Rattle.std.proofs.Common.{◌++◌, ◌∙◌, ap, sym, get_or, List}
 use Rattle.std.specs.Prelude.{option_map, option_to_list, slice_get}
 use Rattle.heap_core.specs.declared.value.Object.{Object}
 use Rattle.canonical_order.specs.Canonical.{renamed_object}
