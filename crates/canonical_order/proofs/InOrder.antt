@@ -81,7 +81,7 @@ in_range n i o there =
     let equal : 0 + i ≡ o = cc in
     (inside, omega (arith, equal))
 
-range_each_once : (n : ℕ) → HoldsEachOnce (range_with_len 0 n) n
+pub range_each_once : (n : ℕ) → HoldsEachOnce (range_with_len 0 n) n
 range_each_once n = record {
   as_many = length-range_with_len 0 n;
   within = λ i o there. omega (arith, (in_range n i o there).0, (in_range n i o there).1);
