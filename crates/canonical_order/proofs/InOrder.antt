@@ -19,6 +19,7 @@ use Rattle.heap_core.specs.Start.{Fits, Reached, root, held}
 use Rattle.canonical_order.specs.Canonical.{cells_of, places, first_place, HoldsEachOnce, IsCanonical}
 use Rattle.canonical_order.specs.Meeting.{met_all, places_in_order}
 use Rattle.canonical_order.proofs.Counting.{slice_get-range}
+use Rattle.canonical_order.proofs.FirstPlaces.{first_within}
 use Rattle.canonical_order.proofs.Meeting.{IsMet, met_rises, rises_met}
 
 -- ## the places in number order
@@ -49,14 +50,6 @@ places_are : (s : Start) → places s (range_with_len 0 (length s.objects)) ≡ 
 places_are s = ap (λ cs. s.this ∷ (s.args ++ cs)) (cells_from [] s.objects)
 
 -- ## every object that is reached has a place
-
-first_within : (vs : List Value) (o : ℕ) → Contains vs (Obj o) → first_place vs o < length vs
-first_within vs o (k, within, is) =
-    elim (cases_lt k (first_place vs o)) [
-      | inl before ↦
-          absurd (false≢true (sym (fails_before_first (is_object o) vs k (Obj o) before) ∙ ap (is_object o) is ∙ eq-eqb o o refl))
-      | inr here ↦ omega (arith, within, here)
-    ]
 
 cells_contain : (xs : List Object) (p o : ℕ) (x : Object) → slice_get xs p ≡ Some x → Contains x.cells (Obj o) → Contains (flat_map (λ y. y.cells) xs) (Obj o)
 cells_contain [] p o x there cell = absurd (cc)

@@ -1,7 +1,12 @@
 pub mod Counting
+pub mod FirstPlaces
 pub mod Meeting
 pub mod InOrder
 pub mod Places
 pub mod Ranges
+pub mod Rising
 mod Rows
+pub mod TableMet
 pub mod TupleOrder
+pub mod OneVisit
+pub mod Visited

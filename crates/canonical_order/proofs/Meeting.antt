@@ -8,6 +8,7 @@ use Rattle.heap_core.specs.declared.value.Value.TheVariants.{Null, Obj, Num, Fla
 use Rattle.heap_core.specs.Outcomes.{is_object}
 use Rattle.canonical_order.specs.Canonical.{first_place}
 use Rattle.canonical_order.specs.Meeting.{met, met_all}
+use Rattle.canonical_order.proofs.Rising.{rises_over}
 
 -- what stands behind a first part
 behind : (us ws : List Value) (w : Value) → get_or (us ++ w ∷ ws) (length us) Null ≡ w
@@ -156,19 +157,6 @@ met_rises n vs us (Flag b ∷ ws) k split m is o lt =
 
 -- ## where the first places rise, all are met in order
 
-chain : (n : ℕ) (vs : List Value) → ((o : ℕ) → o + 1 < n → first_place vs o < first_place vs (o + 1)) → (k d : ℕ) → k + suc d < n → first_place vs k < first_place vs (k + suc d)
-chain n vs rises k zero lt =
-    let e : k + 1 ≡ k + suc zero = omega arith in
-    omega (arith, rises k (omega (arith, lt)), ap (first_place vs) e)
-chain n vs rises k (suc d) lt =
-    let e : k + suc d + 1 ≡ k + suc (suc d) = omega arith in
-    omega (arith, chain n vs rises k d (omega (arith, lt)), rises (k + suc d) (omega (arith, lt)), ap (first_place vs) e)
-
-ordered : (n : ℕ) (vs : List Value) → ((o : ℕ) → o + 1 < n → first_place vs o < first_place vs (o + 1)) → (k o : ℕ) → k < o → o < n → first_place vs k < first_place vs o
-ordered n vs rises k o less small =
-    let e : k + suc (o - (k + 1)) ≡ o = omega arith in
-    omega (arith, chain n vs rises k (o - (k + 1)) (omega (arith, e, small)), ap (first_place vs) e)
-
 pub rises_met : (n : ℕ) (vs us ws : List Value) (k : ℕ) → us ++ ws ≡ vs → IsMet n vs (length us) k → ((o : ℕ) → o + 1 < n → first_place vs o < first_place vs (o + 1)) → ((o : ℕ) → o < n → first_place vs o < length vs) → met_all n (Some k) ws ≡ Some n
 rises_met n vs us [] k split m rises there =
     elim (cases_lt k n) [
@@ -188,7 +176,7 @@ rises_met n vs us (Obj q ∷ ws) k split m rises there =
           ap (λ x. met_all n (met n (Some k) (Obj x)) ws) same ∙ ap (λ x. met_all n x ws) (met_next n k small) ∙ rises_met n vs (us ++ Obj k ∷ []) ws (k + 1) (parts us ws vs (Obj k) here) (step_next n vs us ws k here small m) rises there
       | Early early small ↦
           let here : first_place vs q ≤ length us = subst (λ z. first_place z q ≤ length us) split (at_most us ws q) in
-          absurd (omega (arith, ordered n vs rises k q early small, here, m.above k (omega arith) (omega (arith, early, small))))
+          absurd (omega (arith, rises_over (first_place vs) n rises k q early small, here, m.above k (omega arith) (omega (arith, early, small))))
     ]
 rises_met n vs us (Null ∷ ws) k split m rises there =
     rises_met n vs (us ++ Null ∷ []) ws k (parts us ws vs Null split) (step_over n vs us ws Null k split (λ p le small. refl) m) rises there

@@ -13,6 +13,7 @@ use Rattle.heap_core.specs.Posed.{Posed}
 use Rattle.canonical_order.specs.declared.tuple.Tuple.TheVariants.{Root, Field}
 use Rattle.canonical_order.specs.Canonical.{places, first_place, renumbered}
 use Rattle.canonical_order.specs.Tuples.{tuples}
+use Rattle.canonical_order.specs.Visiting.{visited}
 
 -- class L { nullable L next; void nop() { } }, within this number of objects
 abbrev nop : ℕ → Posed
@@ -82,3 +83,24 @@ not_rising = refl
 
 rising_again : map (first_place (places exchanged (0 ∷ 1 ∷ 3 ∷ 2 ∷ 4 ∷ 5 ∷ []))) (0 ∷ 1 ∷ 3 ∷ 2 ∷ 4 ∷ 5 ∷ []) ≡ 0 ∷ 1 ∷ 4 ∷ 5 ∷ 7 ∷ 9 ∷ []
 rising_again = refl
+
+visit_of_crossed : visited crossed ≡ 0 ∷ 1 ∷ 2 ∷ 3 ∷ 4 ∷ 5 ∷ []
+visit_of_crossed = refl
+
+visit_of_exchanged : visited exchanged ≡ 0 ∷ 1 ∷ 3 ∷ 2 ∷ 4 ∷ 5 ∷ []
+visit_of_exchanged = refl
+
+-- numbered backwards, it is renumbered by its visit to the same start again
+backwards : renumbered (renumbered crossed (5 ∷ 4 ∷ 3 ∷ 2 ∷ 1 ∷ 0 ∷ [])) (visited (renumbered crossed (5 ∷ 4 ∷ 3 ∷ 2 ∷ 1 ∷ 0 ∷ []))) ≡ crossed
+backwards = refl
+
+-- an argument that is the receiver, two arguments that are one object, and a cycle
+abbrev shared : Start
+shared = record {
+  objects = a (Obj 2) (Obj 1) ∷ b (Obj 0) Null Null ∷ b (Obj 2) (Obj 0) Null ∷ [];
+  this = Obj 1;
+  args = Obj 2 ∷ Null ∷ Obj 1 ∷ Obj 2 ∷ [];
+}
+
+visit_of_shared : visited shared ≡ 1 ∷ 2 ∷ 0 ∷ []
+visit_of_shared = refl

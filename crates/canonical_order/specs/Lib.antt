@@ -1,3 +1,6 @@
 pub mod Canonical
+pub mod Laws
 pub mod Meeting
+pub mod Met
 pub mod Tuples
+pub mod Visiting

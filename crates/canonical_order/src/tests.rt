@@ -4,7 +4,7 @@ ghost use Rattle.taco_unit.specs.declared.stmt.Stmt.TheVariants.{Block};
 ghost use Rattle.canonical_order.specs.Canonical.{HoldsEachOnce};
 
 use super::*;
-use heap_core::{Problem, Scope, Start, Value};
+use heap_core::{Object, Problem, Scope, Start, Value};
 use no_memory::NoMemory;
 use sqlite_items::Items;
 use std::alloc::Global;
@@ -27,14 +27,14 @@ fn class_with_method(alloc: Global) -> Result<Items<ClassDef>, NoMemory>
     Ok(classes)
 }
 
-/// A static method that does nothing.
+/// A method that does nothing.
 fn idle(alloc: Global, name: Name) -> MethodDef
-    ensures { result ≡ record { name = name; class = 0; fixed = true; params = []; result = None; locals = []; needs = []; gives = []; body = Block [] } }
+    ensures { result ≡ record { name = name; class = 0; fixed = false; params = []; result = None; locals = []; needs = []; gives = []; body = Block [] } }
 {
     MethodDef {
         name,
         class: 0,
-        fixed: true,
+        fixed: false,
         params: Items::new(alloc),
         result: None,
         locals: Items::new(alloc),
@@ -45,7 +45,7 @@ fn idle(alloc: Global, name: Name) -> MethodDef
 }
 
 fn one_method(alloc: Global) -> Result<Items<MethodDef>, NoMemory>
-    ensures { IfOk result (λ ms. ms ≡ record { name = 109 ∷ []; class = 0; fixed = true; params = []; result = None; locals = []; needs = []; gives = []; body = Block [] } ∷ []) }
+    ensures { IfOk result (λ ms. ms ≡ record { name = 109 ∷ []; class = 0; fixed = false; params = []; result = None; locals = []; needs = []; gives = []; body = Block [] } ∷ []) }
 {
     let name = Name::new(alloc, b"m")?;
     let mut methods = Items::new(alloc);
@@ -53,7 +53,7 @@ fn one_method(alloc: Global) -> Result<Items<MethodDef>, NoMemory>
     Ok(methods)
 }
 
-/// The class B with `static void m() { }`.
+/// The class B with `void m() { }`.
 fn idle_unit(classes: Items<ClassDef>, methods: Items<MethodDef>, alloc: Global) -> Unit
     requires { IsWell (record { classes = classes; fields = []; methods = methods }) }
     ensures { result ≡ record { classes = classes; fields = []; methods = methods } }
@@ -81,22 +81,39 @@ fn idle_problem(alloc: Global) -> Result<Problem, NoMemory> {
     })
 }
 
-fn empty_start(alloc: Global) -> Start
-    ensures { result.objects ≡ [] }
+/// One object of B, which is the receiver.
+fn lone_start(alloc: Global) -> Result<Start, NoMemory>
+    ensures { IfOk result (λ s. length s.objects ≡ 1) }
 {
-    Start {
-        objects: Items::new(alloc),
-        this: Value::Null,
+    let mut objects = Items::new(alloc);
+    objects.push(Object {
+        class: 0,
+        cells: Items::new(alloc),
+    })?;
+    Ok(Start {
+        objects,
+        this: Value::Obj(0),
         args: Items::new(alloc),
-    }
+    })
 }
 
 #[test]
-fn a_start_without_objects_is_renumbered(rt: HostRuntime) -> Result<(), Fail> {
+fn a_start_of_one_object_is_renumbered(rt: HostRuntime) -> Result<(), Fail> {
     let problem = idle_problem(rt.alloc())?;
-    let start = empty_start(rt.alloc());
+    let start = lone_start(rt.alloc())?;
     assert!(rt; start.fits(&problem));
-    let renumbered = renumber(rt.alloc(), &start, &[], &problem)?;
-    assert_eq!(rt; renumbered.this, Value::Null);
+    let renumbered = renumber(rt.alloc(), &start, &[0], &problem)?;
+    assert_eq!(rt; renumbered.this, Value::Obj(0));
+    assert_eq!(rt; renumbered.objects.len(), 1);
+    Ok(())
+}
+
+#[test]
+fn a_start_of_one_object_is_visited(rt: HostRuntime) -> Result<(), Fail> {
+    let problem = idle_problem(rt.alloc())?;
+    let start = lone_start(rt.alloc())?;
+    assert!(rt; start.fits(&problem));
+    let order = visit_order(rt.alloc(), &start, &problem)?;
+    assert_eq!(rt; order.as_slice(), [0].as_slice());
     Ok(())
 }

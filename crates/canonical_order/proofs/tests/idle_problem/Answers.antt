@@ -1,4 +1,4 @@
-use Rattle.std.proofs.Common.{◌≡◌, ℕ, zero, suc, [], ◌∷◌, Some, None, true, refl, sym, arith, subst}
+use Rattle.std.proofs.Common.{◌≡◌, ℕ, zero, suc, [], ◌∷◌, Some, None, true, false, refl, sym, arith, subst}
 use Rattle.std.specs.Prelude.{slice_get}
 use Rattle.taco_unit.specs.declared.unit.ClassDef.{ClassDef}
 use Rattle.taco_unit.specs.declared.unit.MethodDef.{MethodDef}
@@ -12,7 +12,7 @@ abbrev the_class : ClassDef
 the_class = record { name = 66 ∷ []; fields = []; methods = 0 ∷ []; invariants = [] }
 
 abbrev the_method : MethodDef
-the_method = record { name = 109 ∷ []; class = 0; fixed = true; params = []; result = None; locals = []; needs = []; gives = []; body = Block [] }
+the_method = record { name = 109 ∷ []; class = 0; fixed = false; params = []; result = None; locals = []; needs = []; gives = []; body = Block [] }
 
 abbrev the_unit : Parts
 the_unit = record { classes = the_class ∷ []; fields = []; methods = the_method ∷ [] }
