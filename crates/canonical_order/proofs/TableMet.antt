@@ -13,7 +13,7 @@ set_there [] i v w there = absurd (cc)
 set_there (x ∷ xs) zero v w there = cc
 set_there (x ∷ xs) (suc i) v w there = set_there xs i v w there
 
-set_apart : {A : Type 0} (xs : List A) (i k : ℕ) (v : A) → (i ≡ k → ⊥) → slice_get (set xs i v) k ≡ slice_get xs k
+pub set_apart : {A : Type 0} (xs : List A) (i k : ℕ) (v : A) → (i ≡ k → ⊥) → slice_get (set xs i v) k ≡ slice_get xs k
 set_apart [] i k v apart = refl
 set_apart (x ∷ xs) zero zero v apart = absurd (apart refl)
 set_apart (x ∷ xs) zero (suc k) v apart = refl

@@ -1,0 +1,4 @@
+pub mod Names
+pub mod Evaluated
+pub mod Coded
+pub mod Called

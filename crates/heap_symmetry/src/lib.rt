@@ -1,0 +1,2 @@
+//! Laws of the definitions: what a heap's numbering does not change.
+#![tactic(auto)]
