@@ -270,7 +270,7 @@ binary_as naming op.Iff w s t = both_as naming op.Iff w s t
 
 -- ## quantifiers
 
-out_as : (n : ℕ → ℕ) (s : Seen) → is_out (seen_as n s) ≡ is_out s
+pub out_as : (n : ℕ → ℕ) (s : Seen) → is_out (seen_as n s) ≡ is_out s
 out_as n (Is v) = refl
 out_as n Bad = refl
 out_as n Out = refl
@@ -280,7 +280,7 @@ bad_as n (Is v) = refl
 bad_as n Bad = refl
 bad_as n Out = refl
 
-true_as : (n : ℕ → ℕ) (s : Seen) → is_true (seen_as n s) ≡ is_true s
+pub true_as : (n : ℕ → ℕ) (s : Seen) → is_true (seen_as n s) ≡ is_true s
 true_as n (Is Null) = refl
 true_as n (Is (Obj o)) = refl
 true_as n (Is (Num z)) = refl

@@ -2,3 +2,4 @@ pub mod Names
 pub mod Evaluated
 pub mod Coded
 pub mod Called
+pub mod Judging
