@@ -1,6 +1,6 @@
 -- A start that fits has one visit alone.
 use Rattle.std.proofs.Common.{◌≡◌, ℕ, zero, suc, ◌+◌, ◌<◌, ◌≤◌, List, [], ◌∷◌, ◌++◌, length, Some, refl, sym, ◌∙◌, ap, subst, inl, inr, arith, take, drop, get_or, append_assoc}
-use Rattle.std.specs.Prelude.{map, flat_map, slice_get, slice_index, Contains}
+use Rattle.std.specs.Prelude.{map, flat_map, slice_get, slice_index}
 use Rattle.std.proofs.lemmas.Bool.{cases_lt, cases_eq}
 use Rattle.std.proofs.lemmas.Grind.{flat_map-append}
 use Rattle.std.proofs.lemmas.Option.{slice_get_within, get_or_from_slice_get, slice_get-get_or}
@@ -12,7 +12,7 @@ use Rattle.heap_core.specs.declared.start.Start.{Start}
 use Rattle.heap_core.specs.Posed.{Posed}
 use Rattle.heap_core.specs.Start.{Fits, Reached, root, held}
 use Rattle.canonical_order.specs.Canonical.{cells_of, places, first_place, IsVisit}
-use Rattle.canonical_order.proofs.FirstPlaces.{at_most_length, stays, first_within, contains_each, behind}
+use Rattle.canonical_order.proofs.FirstPlaces.{stays, first_within, contains_each, behind}
 use Rattle.canonical_order.proofs.Rising.{rises_over}
 use Rattle.canonical_order.proofs.Visited.{first_parts, rising_at, take_next, holds_cell}
 

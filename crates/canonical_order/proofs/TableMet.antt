@@ -1,12 +1,11 @@
 -- The table that tells which objects were met.
-use Rattle.std.proofs.Common.{◌≡◌, ℕ, zero, suc, ◌+◌, ◌<◌, Bool, true, false, eqb, List, [], ◌∷◌, ◌++◌, length, Some, refl, sym, ◌∙◌, ap, inl, inr, ◌⊎◌, arith, set}
+use Rattle.std.proofs.Common.{◌≡◌, ℕ, zero, suc, ◌<◌, Bool, true, false, List, [], ◌∷◌, ◌++◌, length, Some, refl, sym, ◌∙◌, ap, inl, inr, arith, set}
 use Rattle.std.specs.Prelude.{◌==◌, slice_get}
-use Rattle.std.specs.List.{list_any}
-use Rattle.std.proofs.lemmas.Bool.{cases_eq, cases_lt, eq-eqb, ne_eqb}
-use Rattle.std.proofs.lemmas.List.{length-append, length-set}
+use Rattle.std.proofs.lemmas.Bool.{cases_eq, eq-eqb, ne_eqb}
+use Rattle.std.proofs.lemmas.List.{length-set}
 use Rattle.std.proofs.lemmas.List.Folds.{list_any-append}
 use Rattle.canonical_order.specs.Met.{AreMet}
-use Rattle.canonical_order.proofs.Visited.{At, Before, Last, where_at}
+use Rattle.canonical_order.proofs.Visited.{Before, Last, where_at}
 
 set_there : {A : Type 0} (xs : List A) (i : ℕ) (v w : A) → slice_get (set xs i v) i ≡ Some w → w ≡ v
 set_there [] i v w there = absurd (cc)

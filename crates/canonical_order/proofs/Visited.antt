@@ -2,12 +2,10 @@
 use Rattle.std.proofs.Common.{◌≡◌, ℕ, zero, suc, ◌+◌, ◌<◌, ◌≤◌, Bool, true, false, cond, eqb, not, ◌&&◌, List, [], ◌∷◌, ◌++◌, length, Option, Some, None, refl, sym, ◌∙◌, ap, subst, inl, inr, ◌⊎◌, arith, take, append_assoc, get_or}
 use Rattle.std.specs.Prelude.{map, flat_map, fold, nat_lt, ◌==◌, slice_get, slice_index, Contains, option_to_list}
 use Rattle.std.specs.List.{range_with_len, list_any, AllByRecursion, IsDistinct}
-use Rattle.std.specs.Set.{is_member}
 use Rattle.std.specs.Cmp.{IsEquivalence}
-use Rattle.std.specs.List.Sorted.{IsStrictlyIncreasing}
 use Rattle.std.proofs.lemmas.Bool.{cases_lt, cases_eq, false≢true, eq-eqb, eqb-true, lt-ltb, le-ltb, ne_eqb}
 use Rattle.std.proofs.lemmas.Grind.{flat_map-append}
-use Rattle.std.proofs.lemmas.Option.{slice_get_within, slice_get_past, slice_get-get_or, slice_get-map, get_or_from_slice_get}
+use Rattle.std.proofs.lemmas.Option.{slice_get_within, slice_get-get_or, get_or_from_slice_get}
 use Rattle.std.proofs.lemmas.List.{length-append, length-map, append-nil, take_all, take_more, take-append-le}
 use Rattle.std.proofs.lemmas.List.Concat.{flat_map-cons}
 use Rattle.std.proofs.lemmas.List.Elements.{Contains-append_left, Contains-append_right}
@@ -21,12 +19,11 @@ use Rattle.heap_core.specs.declared.value.Object.{Object}
 use Rattle.heap_core.specs.declared.start.Start.{Start}
 use Rattle.heap_core.specs.Posed.{Posed}
 use Rattle.heap_core.specs.Outcomes.{is_object}
-use Rattle.heap_core.specs.Heap.{Heap}
 use Rattle.heap_core.specs.Start.{Fits, Reached, root, held}
-use Rattle.canonical_order.specs.Canonical.{cells_of, places, first_place, HoldsEachOnce, IsVisit}
+use Rattle.canonical_order.specs.Canonical.{cells_of, places, first_place, IsVisit}
 use Rattle.canonical_order.specs.Visiting.{with_value, with_values, with_fields, visited}
 use Rattle.canonical_order.proofs.Counting.{slice_get-append_left, slice_get-append_right, slice_get-range}
-use Rattle.canonical_order.proofs.FirstPlaces.{at_most_length, stays, behind, first_within, contains_each}
+use Rattle.canonical_order.proofs.FirstPlaces.{stays, behind, first_within, contains_each}
 
 abbrev is_in : List ℕ → ℕ → Bool
 is_in order o = list_any (λ q. q == o) order

@@ -19,9 +19,9 @@ use Rattle.heap_core.specs.declared.value.Value.{Value}
 use Rattle.heap_core.specs.declared.value.Value.TheVariants.{Null, Obj, Num, Flag}
 use Rattle.heap_core.specs.Posed.{Posed}
 use Rattle.heap_core.specs.Outcomes.{number, opposite, negative, operated, zero_of}
-use Rattle.heap_core.specs.Exec.{Memory, Ends, Gives, Throws, Leaves, Exit, Goes, Returns, Raises, Stops, Frame, Code, Body, Run, then_with, ends_as, on_object, gives_in, read, write, make, combined, in_order, target_of, entered, code, call_of, after, on_branch, after_test, then_do, then_body, in_turn, set_local, stepped, step_field, turns, give_back, exec, returned, run_body, calls}
+use Rattle.heap_core.specs.Exec.{Memory, Ends, Gives, Exit, Goes, Returns, Raises, Stops, Frame, Code, Body, Run, then_with, ends_as, on_object, gives_in, read, write, in_order, target_of, entered, code, call_of, after, on_branch, after_test, then_do, then_body, in_turn, set_local, stepped, step_field, turns, give_back, exec, returned, run_body, calls}
 use Rattle.heap_core.proofs.ExecForms.{code_num, code_flag, code_null, code_this, code_local, code_read, code_neg, code_not, code_bin, code_new, code_call, code_result, code_bound, code_quant, code_old, code_has, code_size, call_form, exec_block, exec_set, exec_write, exec_step_local, exec_step_field, exec_if, exec_while, exec_return, exec_run}
-use Rattle.heap_symmetry.specs.Renaming.{IsNaming, value_as, seen_as}
+use Rattle.heap_symmetry.specs.Renaming.{IsNaming, value_as}
 use Rattle.heap_symmetry.proofs.Evaluated.{operated_as, number_as, negative_as, opposite_as}
 use Rattle.heap_symmetry.proofs.Coded.{SameMemory, SameEnds, gives, throws, leaves, frame_as, SameCode, then_same, seen_same, in_same, object_same, read_same, write_same, make_same, combined_same, nothing_as, zero_as, map-set}
 
@@ -115,11 +115,13 @@ does p run method target args fr m =
     then_with (target_of (option_map (code p run) target) fr m) (λ this n. then_with (in_order (map (code p run) args) fr n) (λ vs l. entered run method this vs l))
 
 does_same : (p : Posed) (run : Run) {n : ℕ → ℕ} → SameRun p.scope.objects n run → (method : ℕ) (target : Option (E p run n)) (args : List (E p run n)) → SameCalls p.scope.objects n (does p run method (option_map (λ b. b.0) target) (map (λ b. b.0) args))
-does_same p run {n} sr method target args = record { ends = λ fr m m' s.
-    let t = option_map (λ b. b.0) target in
-    let as_ = map (λ b. b.0) args in
-    then_same (returned_as n) (returned_as n) (target_of (option_map (code p run) t) fr m) (target_of (option_map (code p run) t) (frame_as n fr) m') (target_same p run target fr m m' s) (λ this l. then_with (in_order (map (code p run) as_) fr l) (λ vs z. entered run method this vs z)) (λ this l. then_with (in_order (map (code p run) as_) (frame_as n fr) l) (λ vs z. entered run method this vs z)) (λ this l l' s'.
-    then_same (map (value_as n)) (returned_as n) (in_order (map (code p run) as_) fr l) (in_order (map (code p run) as_) (frame_as n fr) l') (args_same p run args fr l l' s') (λ vs z. entered run method this vs z) (λ vs z. entered run method (returned_as n this) vs z) (λ vs z z' s''. entered_same run sr method this vs z z' s'')) }
+does_same p run {n} sr method target args = record {
+  ends = λ fr m m' s.
+      let t = option_map (λ b. b.0) target in
+      let as_ = map (λ b. b.0) args in
+      then_same (returned_as n) (returned_as n) (target_of (option_map (code p run) t) fr m) (target_of (option_map (code p run) t) (frame_as n fr) m') (target_same p run target fr m m' s) (λ this l. then_with (in_order (map (code p run) as_) fr l) (λ vs z. entered run method this vs z)) (λ this l. then_with (in_order (map (code p run) as_) (frame_as n fr) l) (λ vs z. entered run method this vs z)) (λ this l l' s'.
+      then_same (map (value_as n)) (returned_as n) (in_order (map (code p run) as_) fr l) (in_order (map (code p run) as_) (frame_as n fr) l') (args_same p run args fr l l' s') (λ vs z. entered run method this vs z) (λ vs z. entered run method (returned_as n this) vs z) (λ vs z z' s''. entered_same run sr method this vs z z' s''));
+}
 
 -- a call is known by its parts
 record SameParts (p : Posed) (run : Run) (n : ℕ → ℕ) (c : Call-F Expr Call Quant Reach) : Type 0 where
@@ -236,9 +238,11 @@ back_same p run {n} naming sr (Some a) = record { ends = λ fr m m' s. after_sam
 stmt_layer : (p : Posed) (run : Run) {n nb : ℕ → ℕ} → IsNaming n nb → SameRun p.scope.objects n run → (y : Stmt-F (S p run n)) → SameBody p.scope.objects n (exec p run (roll-Stmt (map-Stmt (S p run n) Stmt (λ t. t.0) y)))
 stmt_layer p run {n} naming sr (Stmt-F.Block ts) = rw (s.rolls-Block (map (λ t. t.0) ts)) (record { ends = λ fr m m' is. exit_formed (exec_block p run (map (λ t. t.0) ts) fr m) (exec_block p run (map (λ t. t.0) ts) (frame_as n fr) m') ((parts_same p run ts).ends fr m m' is) })
 stmt_layer p run {n} naming sr (Stmt-F.Set i a) = rw (s.rolls-Set i a) (record { ends = λ fr m m' is. exit_formed (exec_set p run i a fr m) (exec_set p run i a (frame_as n fr) m') (after_same (value_as n) (code p run a fr m) (code p run a (frame_as n fr) m') ((same_code p run naming sr a).ends fr m m' is) (set_local fr i) (set_local (frame_as n fr) i) (set_same fr i)) })
-stmt_layer p run {n} naming sr (Stmt-F.Write a f b) = rw (s.rolls-Write a f b) (record { ends = λ fr m m' is. exit_formed (exec_write p run a f b fr m) (exec_write p run a f b (frame_as n fr) m') (after_same (value_as n) (code p run a fr m) (code p run a (frame_as n fr) m') ((same_code p run naming sr a).ends fr m m' is) (λ v l. after (code p run b fr l) (λ u z. after (on_object (λ o. write p f o u) v z) (λ q. Goes fr.locals))) (λ v l. after (code p run b (frame_as n fr) l) (λ u z. after (on_object (λ o. write p f o u) v z) (λ q. Goes (map (value_as n) fr.locals)))) (λ v l l' is'.
-    after_same (value_as n) (code p run b fr l) (code p run b (frame_as n fr) l') ((same_code p run naming sr b).ends fr l l' is') (λ u z. after (on_object (λ o. write p f o u) v z) (λ q. Goes fr.locals)) (λ u z. after (on_object (λ o. write p f o u) (value_as n v) z) (λ q. Goes (map (value_as n) fr.locals))) (λ u z z' is''.
-    on_same nothing_as (on_object (λ o. write p f o u) v z) (on_object (λ o. write p f o (value_as n u)) (value_as n v) z') (object_same nothing_as (λ o. write p f o u) (λ o. write p f o (value_as n u)) (λ o q q' t. write_same naming p f o u q q' t) v z z' is'') fr))) })
+stmt_layer p run {n} naming sr (Stmt-F.Write a f b) = rw (s.rolls-Write a f b) (record {
+  ends = λ fr m m' is. exit_formed (exec_write p run a f b fr m) (exec_write p run a f b (frame_as n fr) m') (after_same (value_as n) (code p run a fr m) (code p run a (frame_as n fr) m') ((same_code p run naming sr a).ends fr m m' is) (λ v l. after (code p run b fr l) (λ u z. after (on_object (λ o. write p f o u) v z) (λ q. Goes fr.locals))) (λ v l. after (code p run b (frame_as n fr) l) (λ u z. after (on_object (λ o. write p f o u) v z) (λ q. Goes (map (value_as n) fr.locals)))) (λ v l l' is'.
+      after_same (value_as n) (code p run b fr l) (code p run b (frame_as n fr) l') ((same_code p run naming sr b).ends fr l l' is') (λ u z. after (on_object (λ o. write p f o u) v z) (λ q. Goes fr.locals)) (λ u z. after (on_object (λ o. write p f o u) (value_as n v) z) (λ q. Goes (map (value_as n) fr.locals))) (λ u z z' is''.
+      on_same nothing_as (on_object (λ o. write p f o u) v z) (on_object (λ o. write p f o (value_as n u)) (value_as n v) z') (object_same nothing_as (λ o. write p f o u) (λ o. write p f o (value_as n u)) (λ o q q' t. write_same naming p f o u q q' t) v z z' is'') fr)));
+})
 stmt_layer p run {n} naming sr (Stmt-F.StepLocal i up) = rw (s.rolls-StepLocal i up) (record { ends = λ fr m m' is. exit_formed (exec_step_local p run i up fr m) (exec_step_local p run i up (frame_as n fr) m') (after_same (value_as n) (gives_in (slice_get fr.locals i) m) (gives_in (slice_get (map (value_as n) fr.locals) i) m') (local_same i fr m m' is) (λ v l. after (stepped p.scope.ints up v l) (set_local fr i)) (λ v l. after (stepped p.scope.ints up v l) (set_local (frame_as n fr) i)) (λ v l l' is'. after_same (value_as n) (stepped p.scope.ints up v l) (stepped p.scope.ints up (value_as n v) l') (stepped_same naming p.scope.ints up v l l' is') (set_local fr i) (set_local (frame_as n fr) i) (set_same fr i))) })
 stmt_layer p run {n} naming sr (Stmt-F.StepField a f up) = rw (s.rolls-StepField a f up) (record { ends = λ fr m m' is. exit_formed (exec_step_field p run a f up fr m) (exec_step_field p run a f up (frame_as n fr) m') (after_same (value_as n) (code p run a fr m) (code p run a (frame_as n fr) m') ((same_code p run naming sr a).ends fr m m' is) (λ v l. after (on_object (step_field p f up) v l) (λ q. Goes fr.locals)) (λ v l. after (on_object (step_field p f up) v l) (λ q. Goes (map (value_as n) fr.locals))) (λ v l l' is'. on_same nothing_as (on_object (step_field p f up) v l) (on_object (step_field p f up) (value_as n v) l') (object_same nothing_as (step_field p f up) (step_field p f up) (step_field_same p naming f up) v l l' is') fr)) })
 stmt_layer p run {n} naming sr (Stmt-F.If a t u) = rw (s.rolls-If a t.0 u.0) (record { ends = λ fr m m' is. exit_formed (exec_if p run a t.0 u.0 fr m) (exec_if p run a t.0 u.0 (frame_as n fr) m') (after_test_same (code p run a fr m) (code p run a (frame_as n fr) m') ((same_code p run naming sr a).ends fr m m' is) (λ b l. cond b (exec p run t.0 fr l) (exec p run u.0 fr l)) (λ b l. cond b (exec p run t.0 (frame_as n fr) l) (exec p run u.0 (frame_as n fr) l)) (λ b l l' is'. choice_same b (exec p run t.0 fr l) (exec p run t.0 (frame_as n fr) l') (exec p run u.0 fr l) (exec p run u.0 (frame_as n fr) l') (t.1.ends fr l l' is') (u.1.ends fr l l' is'))) })

@@ -1,9 +1,9 @@
 -- Code ends alike under the new numbers.
-use Rattle.std.proofs.Common.{◌≡◌, ℕ, zero, suc, ◌+◌, ◌<◌, ◌≤◌, Bool, true, false, cond, List, [], ◌∷◌, ◌++◌, length, map, Option, Some, None, refl, sym, ◌∙◌, ap, subst, inl, inr, ◌⊎◌, arith, set}
-use Rattle.std.specs.Prelude.{slice_get, slice_set, option_map, option_and_then, ℤ, pos, nat_lt}
+use Rattle.std.proofs.Common.{◌≡◌, ℕ, zero, suc, ◌+◌, ◌<◌, ◌≤◌, Bool, true, false, cond, List, [], ◌∷◌, ◌++◌, length, map, Option, Some, None, refl, sym, ◌∙◌, ap, subst, inl, inr, arith, set}
+use Rattle.std.specs.Prelude.{slice_get, option_map, option_and_then, nat_lt}
 use Rattle.std.specs.Option.{option_map_or}
 use Rattle.std.proofs.lemmas.Bool.{cases_lt, cases_eq, lt-ltb, le-ltb}
-use Rattle.std.proofs.lemmas.List.{length-append, length-map, length-set, map-append}
+use Rattle.std.proofs.lemmas.List.{length-append, length-map, length-set}
 use Rattle.std.proofs.lemmas.Option.{slice_get-map, slice_get_past, slice_get_within}
 use Rattle.taco_unit.specs.declared.kind.Kind.{Kind}
 use Rattle.taco_unit.specs.declared.kind.Kind.TheVariants as kind
@@ -18,11 +18,11 @@ use Rattle.heap_core.specs.declared.value.Object.{Object}
 use Rattle.heap_core.specs.declared.value.Seen.{Seen}
 use Rattle.heap_core.specs.declared.value.Seen.TheVariants.{Is, Bad, Out}
 use Rattle.heap_core.specs.Posed.{Posed}
-use Rattle.heap_core.specs.Outcomes.{number, opposite, negative, operated, zero_of}
-use Rattle.heap_core.specs.Heap.{Heap, cell, place_of, put, put_cell, grown, blank, has_room, first_value}
-use Rattle.heap_core.specs.Exec.{Memory, Ends, Gives, Throws, Leaves, Frame, Code, Run, then_with, ends_as, then_test, on_test, as_test, on_object, gives_in, read, with_heap, write, make, combined}
+use Rattle.heap_core.specs.Outcomes.{operated, zero_of}
+use Rattle.heap_core.specs.Heap.{Heap, cell, place_of, put, put_cell, grown, blank, first_value}
+use Rattle.heap_core.specs.Exec.{Memory, Ends, Gives, Throws, Leaves, Frame, Code, then_with, ends_as, then_test, on_test, as_test, on_object, gives_in, read, with_heap, write, make, combined}
 use Rattle.heap_symmetry.specs.Renaming.{IsNaming, value_as, object_as, seen_as, IsRenamed}
-use Rattle.heap_symmetry.proofs.Evaluated.{operated_as, number_as, negative_as, opposite_as, inside_named}
+use Rattle.heap_symmetry.proofs.Evaluated.{operated_as, inside_named}
 use Rattle.canonical_order.proofs.Counting.{slice_get-append_left}
 use Rattle.canonical_order.proofs.TableMet.{set_apart}
 
@@ -78,10 +78,12 @@ put_same {k} {n} {m} naming h j is few classes f o v = go (slice_get h o) refl (
         let y = record x { cells = set x.cells i v } in
         let same : object_as n y ≡ record x { cells = set (map (value_as n) x.cells) i (value_as n v) } = ap (λ cs. record x { cells = cs }) (map-set (value_as n) x.cells i v) in
         subst (λ z. SameHeaps k n (Some (set h o y)) (Some (set j (n o) z))) same (some (set h o y) (set j (n o) (object_as n y)) (set_renamed naming h j is o y inside) (omega (arith, few, length-set h o y)))
+
     at : (x : Object) → o < length h → (place : Option ℕ) → SameHeaps k n (option_and_then (put_cell h o x v) place) (option_and_then (put_cell j (n o) (object_as n x) (value_as n v)) place)
     at x inside None = none
     at x inside (Some i) =
         subst (λ l. SameHeaps k n (put_cell h o x v i) (cond (nat_lt i l) (Some (set j (n o) (record x { cells = set (map (value_as n) x.cells) i (value_as n v) }))) None)) (sym (length-map x.cells (value_as n))) (placed x inside i (nat_lt i (length x.cells)))
+
     go : (x : Option Object) → slice_get h o ≡ x → (y : Option Object) → y ≡ option_map (object_as n) (slice_get h o) → SameHeaps k n (option_and_then (λ z. option_and_then (put_cell h o z v) (place_of classes z.class f)) x) (option_and_then (λ z. option_and_then (put_cell j (n o) z (value_as n v)) (place_of classes z.class f)) y)
     go None there y same =
         let e : None ≡ y = sym (same ∙ ap (option_map (object_as n)) there) in
@@ -113,14 +115,14 @@ push_renamed {n} h j is x same = record {
   objects = λ o. elim (cases_lt o (length h)) [
     | inl inside ↦ slice_get-append_left j (x ∷ []) (n o) (inside_named is o inside) ∙ is.objects o ∙ ap (option_map (object_as n)) (sym (slice_get-append_left h (x ∷ []) o inside))
     | inr beyond ↦ elim (cases_eq o (length h)) [
-        | inl last ↦
-            let here : slice_get (j ++ x ∷ []) (n o) ≡ Some x = ap (slice_get (j ++ x ∷ [])) (is.past o beyond ∙ last ∙ sym is.as_many) ∙ at_end j x in
-            let there : slice_get (h ++ x ∷ []) o ≡ Some x = ap (slice_get (h ++ x ∷ [])) last ∙ at_end h x in
-            here ∙ ap Some (sym same) ∙ ap (option_map (object_as n)) (sym there)
-        | inr apart ↦
-            let far : length h + 1 ≤ o = omega (arith, beyond, apart) in
-            slice_get_past (j ++ x ∷ []) (n o) (omega (arith, is.past o beyond, far, length-append j (x ∷ []), is.as_many)) ∙ ap (option_map (object_as n)) (sym (slice_get_past (h ++ x ∷ []) o (omega (arith, far, length-append h (x ∷ [])))))
-      ]
+      | inl last ↦
+          let here : slice_get (j ++ x ∷ []) (n o) ≡ Some x = ap (slice_get (j ++ x ∷ [])) (is.past o beyond ∙ last ∙ sym is.as_many) ∙ at_end j x in
+          let there : slice_get (h ++ x ∷ []) o ≡ Some x = ap (slice_get (h ++ x ∷ [])) last ∙ at_end h x in
+          here ∙ ap Some (sym same) ∙ ap (option_map (object_as n)) (sym there)
+      | inr apart ↦
+          let far : length h + 1 ≤ o = omega (arith, beyond, apart) in
+          slice_get_past (j ++ x ∷ []) (n o) (omega (arith, is.past o beyond, far, length-append j (x ∷ []), is.as_many)) ∙ ap (option_map (object_as n)) (sym (slice_get_past (h ++ x ∷ []) o (omega (arith, far, length-append h (x ∷ [])))))
+    ]
   ];
   past = λ o beyond. is.past o (omega (arith, beyond, length-append h (x ∷ [])));
 }
@@ -212,7 +214,6 @@ abbrev pub nothing_as : Unit {0} → Unit {0}
 nothing_as z = z
 
 pub write_same : {n nb : ℕ → ℕ} → IsNaming n nb → (p : Posed) (f o : ℕ) (v : Value) (m m' : Memory) → SameMemory p.scope.objects n m m' → SameEnds p.scope.objects n nothing_as (write p f o v m) (write p f (n o) (value_as n v) m')
-
 write_same {n} naming p f o v m m' s =
     heap_same nothing_as tt (put p.unit.classes m.heap f o v) (put p.unit.classes m'.heap f (n o) (value_as n v)) (put_same naming m.heap m'.heap s.heap s.few p.unit.classes f o v) m m'
 

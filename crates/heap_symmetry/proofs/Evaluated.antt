@@ -1,18 +1,18 @@
 -- A clause has the same value under the new numbers.
-use Rattle.std.proofs.Common.{◌≡◌, ℕ, zero, suc, ◌+◌, ◌<◌, ◌≤◌, Bool, true, false, cond, eqb, not, ◌&&◌, ◌||◌, List, [], ◌∷◌, ◌++◌, length, map, Option, Some, None, refl, sym, ◌∙◌, ap, subst, inl, inr, ◌⊎◌, arith, rules}
-use Rattle.std.specs.Prelude.{slice_get, count_by, option_map, option_and_then, position, ℤ, pos, ◌+ℤ◌, ◌-ℤ◌, ◌*ℤ◌, neg_ℤ, int_lt, int_le}
+use Rattle.std.proofs.Common.{◌≡◌, ℕ, zero, suc, ◌<◌, ◌≤◌, Bool, true, false, cond, eqb, not, ◌&&◌, ◌||◌, List, [], ◌∷◌, ◌++◌, length, map, Option, Some, None, refl, sym, ◌∙◌, ap, subst, inl, inr, arith}
+use Rattle.std.specs.Prelude.{slice_get, count_by, option_map, option_and_then, ℤ, pos, ◌+ℤ◌, ◌-ℤ◌, ◌*ℤ◌, neg_ℤ, int_lt, int_le}
 use Rattle.std.specs.List.{range_with_len, list_any, list_all}
 use Rattle.std.specs.Option.{option_map_or}
 use Rattle.std.proofs.lemmas.Bool.{cases_lt}
 use Rattle.std.proofs.lemmas.List.{map-append}
-use Rattle.std.proofs.lemmas.Option.{slice_get-map, slice_get_past, slice_get_within}
+use Rattle.std.proofs.lemmas.Option.{slice_get-map, slice_get_past}
 use Rattle.taco_unit.specs.declared.unit.ClassDef.{ClassDef}
 use Rattle.taco_unit.specs.declared.expr.Op.{Op}
 use Rattle.taco_unit.specs.declared.expr.Op.TheVariants as op
 use Rattle.taco_unit.specs.declared.expr.Expr.{Expr, ind-Expr, roll-Expr, map-Expr}
 use Rattle.taco_unit.specs.declared.expr.Expr.TheOpen.{Expr-F, Quant-F, Reach-F}
-use Rattle.taco_unit.specs.declared.expr.Quant.{Quant, out-Quant, roll-Quant, map-Quant}
-use Rattle.taco_unit.specs.declared.expr.Reach.{Reach, out-Reach, roll-Reach, map-Reach}
+use Rattle.taco_unit.specs.declared.expr.Quant.{Quant, out-Quant, map-Quant}
+use Rattle.taco_unit.specs.declared.expr.Reach.{Reach, out-Reach, map-Reach}
 use Rattle.taco_unit.specs.declared.expr.Call.{Call}
 use Rattle.taco_unit.specs.declared.expr.Expr.TheVariants as e
 use Rattle.heap_core.specs.declared.value.Value.{Value}
@@ -22,7 +22,7 @@ use Rattle.heap_core.specs.declared.value.Seen.{Seen}
 use Rattle.heap_core.specs.declared.value.Seen.TheVariants.{Is, Bad, Out}
 use Rattle.heap_core.specs.Outcomes.{number, flag, value_in, with_value, with_flag, as_flag, opposite, negative, operated, in_bits, same, equivalent, on_numbers, is_out, is_bad, is_true, is_object, gives_object}
 use Rattle.heap_core.specs.Heap.{Heap, is_of, field, cell, cell_of, place_of}
-use Rattle.heap_core.specs.Eval.{Env, eval, binary, before, bind, over, instance_of, points, widened, rounds, reached, holds, has, size, Meaning}
+use Rattle.heap_core.specs.Eval.{Env, eval, binary, before, bind, over, instance_of, points, widened, rounds, reached, holds, has, size}
 use Rattle.heap_core.proofs.EvalForms.{eval_num, eval_flag, eval_null, eval_this, eval_result, eval_local, eval_bound, eval_read, eval_neg, eval_not, eval_bin, eval_quant, eval_old, eval_has, eval_size, eval_new, eval_call}
 use Rattle.heap_symmetry.specs.Renaming.{IsNaming, value_as, object_as, seen_as, IsRenamed}
 use Rattle.heap_symmetry.proofs.Names.{Within, same_name, any_same, all_same, count_same}
@@ -61,6 +61,7 @@ cell_as n classes f x = go (place_of classes x.class f)
     in_value : (v : Option Value) → value_in (option_map (value_as n) v) ≡ seen_as n (value_in v)
     in_value None = refl
     in_value (Some v) = refl
+
     go : (place : Option ℕ) → value_in (option_and_then (λ i. slice_get (map (value_as n) x.cells) i) place) ≡ seen_as n (value_in (option_and_then (λ i. slice_get x.cells i) place))
     go None = refl
     go (Some i) = ap value_in (slice_get-map (value_as n) x.cells i) ∙ in_value (slice_get x.cells i)
@@ -327,7 +328,7 @@ rounds_as is zero fields set set' alike o = alike o
 rounds_as {n} {m} {a} {b} is (suc k) fields set set' alike o =
     widened_as is fields (rounds k a fields set) (rounds k b fields set') (rounds_as is k fields set set' alike) o
 
-object_named : {n m : ℕ → ℕ} → IsNaming n m → (o : ℕ) (v : Value) → is_object (n o) (value_as n v) ≡ is_object o v
+pub object_named : {n m : ℕ → ℕ} → IsNaming n m → (o : ℕ) (v : Value) → is_object (n o) (value_as n v) ≡ is_object o v
 object_named naming o (Obj p) = same_name naming o p
 object_named naming o Null = refl
 object_named naming o (Num z) = refl

@@ -1,5 +1,5 @@
 -- A start under the new numbers is judged alike.
-use Rattle.std.proofs.Common.{◌≡◌, ℕ, ◌+◌, ◌<◌, ◌≤◌, Bool, true, false, cond, not, ◌&&◌, ◌||◌, List, [], ◌∷◌, ◌++◌, length, map, Option, Some, None, refl, sym, ◌∙◌, ap, subst, arith}
+use Rattle.std.proofs.Common.{◌≡◌, ℕ, ◌+◌, ◌≤◌, Bool, true, false, cond, not, ◌&&◌, ◌||◌, List, [], ◌∷◌, ◌++◌, length, map, Option, Some, None, refl, sym, ◌∙◌, ap, arith}
 use Rattle.std.specs.Prelude.{slice_get, option_map, filter, filter_map, flat_map, zip}
 use Rattle.std.specs.List.{list_any, list_all, range_with_len, enumerate_from, cons_option}
 use Rattle.std.specs.Option.{option_map_or}
@@ -10,7 +10,6 @@ use Rattle.taco_unit.specs.declared.unit.ClassDef.{ClassDef}
 use Rattle.taco_unit.specs.declared.unit.FieldDef.{FieldDef}
 use Rattle.taco_unit.specs.declared.unit.ParamDef.{ParamDef}
 use Rattle.taco_unit.specs.declared.unit.MethodDef.{MethodDef}
-use Rattle.taco_unit.specs.declared.kind.Kind.{Kind}
 use Rattle.heap_core.specs.declared.value.Value.{Value}
 use Rattle.heap_core.specs.declared.value.Value.TheVariants.{Null, Obj, Num, Flag}
 use Rattle.heap_core.specs.declared.value.Object.{Object}
@@ -20,17 +19,17 @@ use Rattle.heap_core.specs.declared.start.Start.{Start}
 use Rattle.heap_core.specs.declared.judged.Part.{Part}
 use Rattle.heap_core.specs.declared.judged.Part.TheVariants as part
 use Rattle.heap_core.specs.declared.judged.Judged.{Judged}
-use Rattle.heap_core.specs.declared.judged.Judged.TheVariants.{Outside, NotAsked, Breaks, Meets}
+use Rattle.heap_core.specs.declared.judged.Judged.TheVariants.{Outside, NotAsked}
 use Rattle.heap_core.specs.Posed.{Posed}
 use Rattle.heap_core.specs.Outcomes.{is_null, is_out, is_true, gives_null}
 use Rattle.heap_core.specs.Heap.{Heap, field}
-use Rattle.heap_core.specs.Eval.{Env, eval}
-use Rattle.heap_core.specs.Exec.{Ends, Gives, Throws, Leaves, Memory, calls, run_body}
+use Rattle.heap_core.specs.Eval.{Env}
+use Rattle.heap_core.specs.Exec.{Ends, Memory, calls}
 use Rattle.heap_core.specs.Start.{method_of}
 use Rattle.heap_core.specs.Judge.{numbers_of, invariant_env, entry_env, exit_env, values_of, at_class, invariants_of, fields_at, invariants_at, all_invariants, needs_of, gives_of, must_be_there, is_missing, missing_at, is_good_at, is_good, lacks_argument, is_asked, not_true, lacks_result, broken_at, broken_parts, first_broken, run_of, judged_end, judged_run, judged}
 use Rattle.heap_symmetry.specs.Kinds.{IsOfKind, outside, not_asked, breaks, meets}
 use Rattle.heap_symmetry.specs.Renaming.{IsNaming, value_as, object_as, seen_as, IsRenamed, IsRenamedStart}
-use Rattle.heap_symmetry.proofs.Names.{Within, any_same, all_same}
+use Rattle.heap_symmetry.proofs.Names.{any_same, all_same}
 use Rattle.heap_symmetry.proofs.Evaluated.{IsRenamedEnv, named_within, field_as, same_value, out_as, true_as}
 use Rattle.heap_symmetry.proofs.Coded.{SameMemory, SameEnds, gives, throws, leaves}
 use Rattle.heap_symmetry.proofs.Called.{returned_as, run_body_same, calls_same}

@@ -3,3 +3,6 @@ pub mod Evaluated
 pub mod Coded
 pub mod Called
 pub mod Judging
+pub mod Fitting
+pub mod Ordered
+pub mod Canonically

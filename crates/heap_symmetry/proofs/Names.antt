@@ -1,10 +1,9 @@
 -- What is asked of all numbers below k has one answer under any naming of them.
-use Rattle.std.proofs.Common.{◌≡◌, ℕ, zero, suc, ◌+◌, ◌<◌, ◌≤◌, Bool, true, false, cond, eqb, not, ◌&&◌, ◌||◌, List, [], ◌∷◌, length, refl, sym, ◌∙◌, ap, subst, inl, inr, ◌⊎◌, arith, Some}
-use Rattle.std.specs.Prelude.{map, filter, count_by, slice_get}
+use Rattle.std.proofs.Common.{◌≡◌, ℕ, zero, suc, ◌+◌, ◌<◌, ◌≤◌, Bool, true, false, eqb, not, List, [], ◌∷◌, length, refl, sym, ◌∙◌, ap, inl, inr, ◌⊎◌, arith}
+use Rattle.std.specs.Prelude.{map, filter, count_by}
 use Rattle.std.specs.List.{range_with_len, list_any, list_all, IsDistinct, AllByRecursion}
-use Rattle.std.specs.Set.{is_member}
 use Rattle.std.specs.Cmp.{IsEquivalence}
-use Rattle.std.proofs.lemmas.Bool.{cases_lt, cases_eq, false≢true, eq-eqb, eqb-true, ne_eqb}
+use Rattle.std.proofs.lemmas.Bool.{cases_eq, false≢true, eq-eqb, eqb-true, ne_eqb}
 use Rattle.std.proofs.lemmas.List.{length-map}
 use Rattle.std.proofs.lemmas.List.Sums.{length-filter}
 use Rattle.std.proofs.lemmas.Map.Made.{length-le_from_is_member}
@@ -101,9 +100,9 @@ of_names : (n : ℕ → ℕ) (t : ℕ → Bool) (a d q : ℕ) → list_any (eqb 
 of_names n t a zero q is = absurd (false≢true is)
 of_names n t a (suc d) q is = elim (tested (t a)) [
   | inl here ↦ elim (cases_eq q (n a)) [
-      | inl same ↦ (a, record { low = omega arith; high = omega arith; passes = here; named = same })
-      | inr apart ↦ further (of_names n t (a + 1) d q (grind (arith, rw here at is, ne_eqb q (n a) apart)))
-    ]
+    | inl same ↦ (a, record { low = omega arith; high = omega arith; passes = here; named = same })
+    | inr apart ↦ further (of_names n t (a + 1) d q (grind (arith, rw here at is, ne_eqb q (n a) apart)))
+  ]
   | inr not_here ↦ further (of_names n t (a + 1) d q (rw not_here at is))
 ]
   where
@@ -114,9 +113,12 @@ names_differ : {n m : ℕ → ℕ} → IsNaming n m → (t : ℕ → Bool) (a d 
 unfolding IsDistinct
 names_differ naming t a zero = tt
 names_differ {n} {m} naming t a (suc d) = elim (tested (t a)) [
-  | inl here ↦ rw here (none (names n t (a + 1) d) (λ is. let o = of_names n t (a + 1) d (n a) is in
-      let same : eqb a o.0 ≡ true = sym (same_name naming a o.0) ∙ eq-eqb (n a) (n o.0) o.1.named in
-      omega (arith, eqb-true a o.0 same, o.1.low)), names_differ naming t (a + 1) d)
+  | inl here ↦ rw here (
+    none (names n t (a + 1) d) (λ is. let o = of_names n t (a + 1) d (n a) is in
+        let same : eqb a o.0 ≡ true = sym (same_name naming a o.0) ∙ eq-eqb (n a) (n o.0) o.1.named in
+        omega (arith, eqb-true a o.0 same, o.1.low)),
+    names_differ naming t (a + 1) d,
+  )
   | inr not_here ↦ rw not_here (names_differ naming t (a + 1) d)
 ]
   where
@@ -138,8 +140,8 @@ count_le : {k : ℕ} {n m : ℕ → ℕ} → Within k n m → (t u : ℕ → Boo
 count_le {k} {n} {m} w t u same =
     let few : length (names n t 0 k) ≤ length (filter u (range_with_len 0 k)) =
     length-le_from_is_member eqb_laws (names n t 0 k) (filter u (range_with_len 0 k)) (names_differ w.naming t 0 k) (λ q is. let o = of_names n t 0 k q is in
-      let inside : q < k = omega (arith, o.1.named, w.there o.0 (omega (arith, o.1.high))) in
-      in_filter u 0 k q (omega arith) (omega (arith, inside)) (ap u o.1.named ∙ same o.0 ∙ o.1.passes))
+    let inside : q < k = omega (arith, o.1.named, w.there o.0 (omega (arith, o.1.high))) in
+    in_filter u 0 k q (omega arith) (omega (arith, inside)) (ap u o.1.named ∙ same o.0 ∙ o.1.passes))
     in
     let long : length (names n t 0 k) ≡ length (filter t (range_with_len 0 k)) = length-map (filter t (range_with_len 0 k)) n in
     omega (arith, few, long, length-filter t (range_with_len 0 k), length-filter u (range_with_len 0 k))

@@ -1,6 +1,6 @@
 -- Heaps and starts that differ by the numbers of their objects alone. (This project's own; the TACO article,
 -- "Symmetry Breaking", gives the purpose.)
-use Rattle.std.specs.Prelude.{◌≡◌, ℕ, ◌≤◌, List, length, map, slice_get, option_map}
+use Rattle.std.specs.Prelude.{◌≡◌, ℕ, ◌≤◌, length, map, slice_get, option_map}
 use Rattle.heap_core.specs.declared.value.Value.{Value}
 use Rattle.heap_core.specs.declared.value.Value.TheVariants.{Obj}
 use Rattle.heap_core.specs.declared.value.Object.{Object}

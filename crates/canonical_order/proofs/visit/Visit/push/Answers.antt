@@ -1,4 +1,4 @@
-use Rattle.std.proofs.Common.{◌≡◌, ◌<◌, true, ap, sym, arith, length}
+use Rattle.std.proofs.Common.{◌≡◌, ◌<◌, ap, arith, length}
 use Rattle.canonical_order.specs.Met.{Met}
 use Rattle.canonical_order.proofs.TableMet.{one_more}
 use Rattle.canonical_order.proofs.visit.Visit.push.Goals as goal
