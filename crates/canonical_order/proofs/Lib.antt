@@ -8,5 +8,6 @@ pub mod Rising
 mod Rows
 pub mod TableMet
 pub mod TupleOrder
+pub mod NumbersLemmas
 pub mod OneVisit
 pub mod Visited

@@ -2,5 +2,6 @@ pub mod Canonical
 pub mod Laws
 pub mod Meeting
 pub mod Met
+pub mod Numbers
 pub mod Tuples
 pub mod Visiting

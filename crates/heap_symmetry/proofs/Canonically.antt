@@ -31,9 +31,10 @@ use Rattle.heap_symmetry.proofs.Fitting.{fits_as}
 use Rattle.heap_symmetry.proofs.Judging.{good_as, judged_alike}
 use Rattle.canonical_order.specs.Canonical.{HoldsEachOnce, IsVisit, IsCanonical, cells_of, places, first_place, number_in, renamed, renumbered}
 use Rattle.canonical_order.proofs.InOrder.{range_each_once}
+use Rattle.canonical_order.proofs.NumbersLemmas.{numbered}
 use Rattle.heap_symmetry.specs.Renaming.{IsNaming, value_as, object_as, IsRenamed}
 use Rattle.heap_symmetry.proofs.Evaluated.{object_named}
-use Rattle.heap_symmetry.proofs.Ordered.{named, named_low, numbered, naming_of, renamed_as, renumbered_as, cells_in}
+use Rattle.heap_symmetry.proofs.Ordered.{named, named_low, naming_of, renamed_as, renumbered_as, cells_in}
 
 -- ## the places
 

@@ -24,6 +24,7 @@ use Rattle.heap_core.specs.Exec.{Memory, Ends, Gives, Throws, Leaves, Frame, Cod
 use Rattle.heap_symmetry.specs.Renaming.{IsNaming, value_as, object_as, seen_as, IsRenamed}
 use Rattle.heap_symmetry.proofs.Evaluated.{operated_as, inside_named}
 use Rattle.canonical_order.proofs.Counting.{slice_get-append_left}
+use Rattle.canonical_order.proofs.NumbersLemmas.{set_at}
 use Rattle.canonical_order.proofs.TableMet.{set_apart}
 
 -- ## what is changed
@@ -48,11 +49,6 @@ data SameHeaps (k : ℕ) (n : ℕ → ℕ) : Option Heap → Option Heap → Typ
   none : SameHeaps k n None None
   some : (h j : Heap) → IsRenamed n h j → length h ≤ k → SameHeaps k n (Some h) (Some j)
 
-set_same : {A : Type 0} (xs : List A) (i : ℕ) (v : A) → i < length xs → slice_get (set xs i v) i ≡ Some v
-set_same [] i v inside = absurd (omega (arith, inside))
-set_same (x ∷ xs) zero v inside = refl
-set_same (x ∷ xs) (suc i) v inside = set_same xs i v (omega (arith, inside))
-
 pub map-set : {A B : Type 0} (f : A → B) (xs : List A) (i : ℕ) (v : A) → map f (set xs i v) ≡ set (map f xs) i (f v)
 map-set f [] i v = refl
 map-set f (x ∷ xs) zero v = refl
@@ -63,7 +59,7 @@ set_renamed : {n m : ℕ → ℕ} → IsNaming n m → (h j : Heap) → IsRename
 set_renamed {n} {m} naming h j is o x inside = record {
   as_many = length-set j (n o) (object_as n x) ∙ is.as_many ∙ sym (length-set h o x);
   objects = λ q. elim (cases_eq o q) [
-    | inl same ↦ subst (λ z. slice_get (set j (n o) (object_as n x)) (n z) ≡ option_map (object_as n) (slice_get (set h o x) z)) same (set_same j (n o) (object_as n x) (inside_named is o inside) ∙ ap (option_map (object_as n)) (sym (set_same h o x inside)))
+    | inl same ↦ subst (λ z. slice_get (set j (n o) (object_as n x)) (n z) ≡ option_map (object_as n) (slice_get (set h o x) z)) same (set_at j (n o) (object_as n x) (inside_named is o inside) ∙ ap (option_map (object_as n)) (sym (set_at h o x inside)))
     | inr apart ↦ set_apart j (n o) (n q) (object_as n x) (λ same. apart (sym (naming.back o) ∙ ap m same ∙ naming.back q)) ∙ is.objects q ∙ ap (option_map (object_as n)) (sym (set_apart h o q x apart))
   ];
   past = λ q beyond. is.past q (omega (arith, beyond, length-set h o x));

@@ -1,12 +1,10 @@
 -- A list that holds each object once gives a naming, and the start that it renumbers is the start under it.
 use Rattle.std.proofs.Common.{◌≡◌, ℕ, zero, suc, ◌<◌, ◌≤◌, Bool, true, false, cond, eqb, ◌&&◌, List, [], ◌∷◌, length, map, Option, Some, None, refl, sym, ◌∙◌, ap, subst, inl, inr, arith, get_or}
-use Rattle.std.specs.Prelude.{slice_get, option_map, option_and_then, filter_map, nat_lt, ◌==◌}
-use Rattle.std.specs.List.{position_or_len}
+use Rattle.std.specs.Prelude.{slice_get, option_map, option_and_then, filter_map, nat_lt}
 use Rattle.std.specs.Option.{option_map_or}
 use Rattle.std.specs.Cmp.Lexicographic.{pointwise}
-use Rattle.std.proofs.lemmas.Bool.{cases_lt, false≢true, lt-ltb, le-ltb, eqb-true}
-use Rattle.std.proofs.lemmas.List.Sums.{passes_at_first}
-use Rattle.std.proofs.lemmas.Option.{slice_get_past, slice_get_within, slice_get-get_or, get_or_from_slice_get}
+use Rattle.std.proofs.lemmas.Bool.{cases_lt, false≢true, lt-ltb, le-ltb}
+use Rattle.std.proofs.lemmas.Option.{slice_get_past, slice_get-get_or, get_or_from_slice_get}
 use Rattle.taco_unit.specs.declared.kind.Kind.{Kind}
 use Rattle.taco_unit.specs.declared.kind.Kind.TheVariants as kind
 use Rattle.taco_unit.specs.declared.unit.ClassDef.{ClassDef}
@@ -21,6 +19,7 @@ use Rattle.heap_core.specs.Heap.{Heap, is_of}
 use Rattle.heap_core.specs.Start.{has_kind, has_field_kind, is_whole, is_receiver, is_argument, method_of, Fits}
 use Rattle.canonical_order.specs.Canonical.{HoldsEachOnce, number_in, renamed, renamed_object, renumbered}
 use Rattle.heap_symmetry.specs.Renaming.{IsNaming, value_as, object_as, IsRenamedStart}
+use Rattle.canonical_order.proofs.NumbersLemmas.{numbered}
 use Rattle.heap_symmetry.proofs.Fitting.{all_at}
 
 -- ## the naming
@@ -43,27 +42,6 @@ at_low order i low = rw (lt-ltb i (length order) low) refl
 
 at_high : (order : List ℕ) (i : ℕ) → length order ≤ i → at_place order i ≡ i
 at_high order i high = rw (le-ltb i (length order) high) refl
-
--- what a list holds has its place there
-pub numbered : (order : List ℕ) (n : ℕ) → HoldsEachOnce order n → (i o : ℕ) → slice_get order i ≡ Some o → number_in order o ≡ i
-numbered order n once i o there =
-    let inside : i < length order = slice_get_within order i o there in
-    let first : number_in order o < length order = elim (cases_lt (number_in order o) (length order)) [
-      | inl fine ↦ fine
-      | inr past ↦ absurd (omega (arith, past, before i there))
-    ] in
-    let found : get_or order (number_in order o) 0 ≡ o = eqb-true (get_or order (number_in order o) 0) o (passes_at_first (λ q. q == o) order 0 first) in
-    once.apart (number_in order o) i o (slice_get-get_or order (number_in order o) 0 first ∙ ap Some found) there
-  where
-    before : (i : ℕ) → slice_get order i ≡ Some o → number_in order o ≤ i
-    before i there = go order i there
-      where
-        go : (xs : List ℕ) (i : ℕ) → slice_get xs i ≡ Some o → position_or_len (λ q. q == o) xs ≤ i
-        go [] i there = absurd (cc)
-        go (x ∷ xs) zero there =
-            let same : x ≡ o = cc in
-            grind (arith, same)
-        go (x ∷ xs) (suc i) there = grind (arith, go xs i there)
 
 pub naming_of : (order : List ℕ) (n : ℕ) → HoldsEachOnce order n → IsNaming (named order) (at_place order)
 naming_of order n once = record {

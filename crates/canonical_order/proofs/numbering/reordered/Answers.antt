@@ -10,4 +10,4 @@ loop-place-preserved c =
     let order = c.args.order.now in
     let i = c.loop-place.place-index in
     let new : List Object = option_to_list (option_map (renamed_object order) (slice_get c.args.objects.now (get_or order i 0))) in
-    c.in_ok-push_renamed.ensures ∙ ap (λ xs. xs ++ new) c.loop-place.invariant ∙ sym (filter_map_more (λ o. option_map (renamed_object order) (slice_get c.args.objects.now o)) order i 0 c.loop-place-test.true)
+    c.in_ok-push_renamed.ensures ∙ ap (λ os. c.loop-place.all ++ option_to_list (option_map (renamed_object os) (slice_get c.args.objects.now (get_or order i 0)))) c.requires.same ∙ ap (λ xs. xs ++ new) c.loop-place.invariant ∙ sym (filter_map_more (λ o. option_map (renamed_object order) (slice_get c.args.objects.now o)) order i 0 c.loop-place-test.true)
