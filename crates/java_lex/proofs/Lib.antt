@@ -1,0 +1,4 @@
+pub mod SymbolLemmas
+pub mod Chains
+pub mod OneCut
+pub mod Longest
