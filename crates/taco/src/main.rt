@@ -1,5 +1,5 @@
 //! The program: `taco check FILE --class C --method M` prints whether the method keeps its contract,
-//! and ends with the status of that answer.
+//! and `taco proof CNF LOG` whether a log follows from a formula. It ends with the status of the answer.
 #![tactic(auto)]
 
 use std::alloc::Global;

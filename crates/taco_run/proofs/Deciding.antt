@@ -4,7 +4,7 @@ use Rattle.taco_unit.specs.Parts.{Parts}
 use Rattle.thin_reader.specs.Units.{unit_of}
 use Rattle.taco_run.specs.declared.answer.Status.{Status}
 use Rattle.taco_run.specs.declared.answer.Status.TheVariants as status
-use Rattle.taco_run.specs.declared.check.Outcome.{Outcome}
+use Rattle.taco_run.specs.declared.outcome.Outcome.{Outcome}
 use Rattle.taco_run.specs.declared.request.Job.{Job}
 use Rattle.taco_run.specs.declared.request.Request.TheVariants as request
 use Rattle.taco_run.specs.Headline.{java_limit, Names, IsPosed, Says}
@@ -29,6 +29,9 @@ decided_by bytes job u is short status.Violated output checks =
       violates = checks.3.violates;
       report = checks.3.told;
     }
+decided_by bytes job u is short status.Done output checks = absurd checks.3
+decided_by bytes job u is short status.Broken output checks = absurd checks.3
+decided_by bytes job u is short (status.BadText slot at) output checks = absurd checks.3
 decided_by bytes job u is short status.Usage output checks = absurd checks.3
 decided_by bytes job u is short status.NotBuilt output checks = absurd checks.3
 decided_by bytes job u is short (status.TooLong slot) output checks = absurd checks.3

@@ -4,3 +4,4 @@ pub mod Lines
 pub mod Plainly
 pub mod Words
 pub mod Joining
+pub mod Formulas

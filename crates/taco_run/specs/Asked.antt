@@ -28,11 +28,22 @@ are_check command file class_word method_word =
 abbrev pub check_of : List ℕ → List ℕ → List ℕ → Request
 check_of file class method = request.Check (record { file = file; class = class; method = method; scope = usual_scope; plan = usual_plan }) 0
 
--- `check FILE --class C --method M`, in this order; every other list of words is none
+-- the words are those of a check of a log: two files
+abbrev pub are_proof : List ℕ → List ℕ → List ℕ → Bool
+are_proof command cnf log = bytes_eq command (codes "proof") && not (is_dashed cnf) && not (is_dashed log)
+
+-- `check FILE --class C --method M` and `proof CNF LOG`, in this order; every other list of words is none
 abbrev pub asked : List (List ℕ) → Option Request
 asked (command ∷ file ∷ class_word ∷ class ∷ method_word ∷ method ∷ []) =
     if are_check command file class_word method_word then Some (check_of file class method) else None
+asked (command ∷ cnf ∷ log ∷ []) = if are_proof command cnf log then Some (request.Proof cnf log) else None
 asked _ = None
+
+-- what `run_plain` is asked for: it serves every request but a check, which is none of its own
+abbrev pub plain_request : Option Request → Option Request
+plain_request None = None
+plain_request (Some (request.Check job budget)) = None
+plain_request (Some (request.Proof cnf log)) = Some (request.Proof cnf log)
 
 -- what is answered to words that ask for this: Usage comes exactly where they ask for nothing
 abbrev pub Requests : Option Request → Result Request RequestFault → Type 0

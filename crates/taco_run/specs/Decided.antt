@@ -7,16 +7,11 @@ use Rattle.heap_core.specs.Posed.{Posed}
 use Rattle.heap_core.specs.Judge.{Violates, Violable}
 use Rattle.taco_run.specs.declared.answer.Status.{Status}
 use Rattle.taco_run.specs.declared.answer.Status.TheVariants as status
-use Rattle.taco_run.specs.declared.check.Outcome.{Outcome}
+use Rattle.taco_run.specs.declared.outcome.Outcome.{Outcome}
 use Rattle.taco_run.specs.declared.request.Job.{Job}
 use Rattle.taco_run.specs.declared.request.Request.TheVariants as request
 use Rattle.taco_run.specs.Headline.{Names, Says}
 use Rattle.taco_run.specs.Texts.{line, no_tuples, holds_report, violated_report}
-
--- a refusal with its line
-pub record IsRefusal (ends : Status) (word : List ℕ) (outcome : Outcome) : Type 0 where
-  pub status_is : outcome.status ≡ ends
-  pub told : outcome.output.items ≡ line word
 
 -- a start that breaks a part was told
 pub record ToldBreach (p : Posed) (output : List ℕ) : Type 0 where

@@ -1,17 +1,18 @@
--- What a call of `run` does.
+-- What a call of `run` or `run_plain` does.
 --
--- It speaks of the content that the files tell of the file that is asked about, of the bytes that the
+-- It speaks of the contents that the files tell of the files that are asked about, of the bytes that the
 -- sink tells, and of the status. Want of memory is the one free answer.
-use Rattle.std.specs.Prelude.{◌≡◌, ◌≢◌, ℕ, ◌<◌, ◌≤◌, List, [], length, take, Option, Some, None, IfSome, codes}
+use Rattle.std.specs.Prelude.{◌≡◌, ◌≢◌, ℕ, ◌<◌, ◌≤◌, ◌⊎◌, List, [], length, take, Option, Some, None, IfSome, codes}
 use Rattle.std.specs.Io.KnownBytes.{Appends}
 use Rattle.taco_unit.specs.Parts.{Parts}
 use Rattle.taco_unit.specs.Named.{class_number, method_number}
+use Rattle.cnf_core.specs.Clauses.{Clauses}
 use Rattle.heap_core.specs.declared.start.Start.{Start}
 use Rattle.heap_core.specs.declared.judged.Part.{Part}
 use Rattle.heap_core.specs.Posed.{Posed}
 use Rattle.heap_core.specs.Judge.{Violates, Violable}
 use Rattle.taco_io.specs.Counts.{Rose}
-use Rattle.taco_io.specs.Shelf.{Shelf, Stays, IsCalm, NameRose}
+use Rattle.taco_io.specs.Shelf.{Shelf, IsCalm, NameRose}
 use Rattle.taco_io.specs.Taken.{Taken}
 use Rattle.thin_reader.specs.Units.{Reads}
 use Rattle.taco_run.specs.declared.answer.Status.{Status}
@@ -19,7 +20,8 @@ use Rattle.taco_run.specs.declared.answer.Status.TheVariants as status
 use Rattle.taco_run.specs.declared.request.Job.{Job}
 use Rattle.taco_run.specs.declared.request.Request.{Request}
 use Rattle.taco_run.specs.declared.request.Request.TheVariants as request
-use Rattle.taco_run.specs.Texts.{line, no_tuples, holds_report, violated_report}
+use Rattle.taco_run.specs.ProofCommand.{IsTooLong, IsNoFormula, IsNoLog, IsJudged, HoldsFormula, LiesIn}
+use Rattle.taco_run.specs.Texts.{line, no_tuples, holds_report, violated_report, badtext_line}
 
 -- the most bytes of a Java text
 abbrev pub java_limit : ℕ
@@ -71,21 +73,43 @@ abbrev pub Says : (told : List ℕ → Option (List ℕ)) → Option Request →
 Says told (Some (request.Check job budget)) status.Holds output = (output ≡ holds_report job.scope no_tuples) × IfSome (told job.file) (λ bytes. Holding bytes job)
 -- violated is sound
 Says told (Some (request.Check job budget)) status.Violated output = TellsBreach (told job.file) job output
+-- the log was gone through
+Says told (Some (request.Proof cnf log)) status.Done output = IsJudged told cnf log status.Done output
+Says told (Some (request.Proof cnf log)) status.Broken output = IsJudged told cnf log status.Broken output
 -- refusals
 Says told None status.Usage output = output ≡ line (codes "usage")
 Says told (Some (request.Check job budget)) status.NotBuilt output = (output ≡ line (codes "notbuilt")) × IfSome (told job.file) IsNoText
 Says told (Some (request.Check job budget)) status.NoMethod output = (output ≡ line (codes "nomethod")) × IfSome (told job.file) (λ bytes. LacksMethod bytes job)
 Says told (Some (request.Check job budget)) (status.TooLong slot) output =
     (output ≡ line (codes "toolong")) × (slot ≡ 0) × IfSome (told job.file) (λ bytes. java_limit < length bytes)
+Says told (Some (request.Proof cnf log)) (status.BadText slot at) output =
+    (output ≡ badtext_line slot at) × LiesIn told cnf log slot (λ bytes. IsNoFormula bytes at) (λ vars bytes. IsNoLog vars bytes at)
+Says told (Some (request.Proof cnf log)) (status.TooLong slot) output =
+    (output ≡ line (codes "toolong")) × LiesIn told cnf log slot IsTooLong (λ vars. IsTooLong)
 -- faults that write nothing
 Says told (Some (request.Check job budget)) status.ReadFault output = output ≡ []
+Says told (Some (request.Proof cnf log)) status.ReadFault output = output ≡ []
 Says told asked status.NoMemory output = output ≡ []
 Says told asked _ output = ⊥
 
--- the count of the file that is asked about rose
+-- the count of a file that is asked about rose; the log is only looked at where the other file holds a formula
 abbrev pub FileRose : Option Request → Shelf → Shelf → Type 0
 FileRose None old new = ⊥
 FileRose (Some (request.Check job budget)) old new = NameRose job.file old new
+FileRose (Some (request.Proof cnf log)) old new = NameRose cnf old new ⊎ ((formula : Clauses) × HoldsFormula old.content cnf formula × NameRose log old new)
+
+-- the request reads through this slot: FILE and CNF through slot 0, LOG through slot 1
+abbrev pub Uses : Option Request → ℕ → Type 0
+Uses None slot = ⊥
+Uses (Some (request.Check job budget)) slot = slot ≡ 0
+Uses (Some (request.Proof cnf log)) slot = (slot ≡ 0) ⊎ (slot ≡ 1)
+
+-- no content changed, no count fell, and the slots that the request does not use are as they were
+pub record Leaves (asked : Option Request) (old new : Shelf) : Type 0 where
+  pub content : (name : List ℕ) → new.content name ≡ old.content name
+  pub faults : (name : List ℕ) → old.faults name ≤ new.faults name
+  pub name : (slot : ℕ) → (Uses asked slot → ⊥) → new.name slot ≡ old.name slot
+  pub rest : (slot : ℕ) → (Uses asked slot → ⊥) → new.rest slot ≡ old.rest slot
 
 -- the output was cut: its first bytes went out, of one that another status calls for
 pub record IsCut (told : List ℕ → Option (List ℕ)) (asked : Option Request) (before after : Taken) : Type 0 where
@@ -112,5 +136,4 @@ pub record Runs (asked : Option Request) (ends : Status) (old new : Shelf) (befo
   pub no_read_fault : ends ≢ status.ReadFault → IsCalm old new
   pub write_fault : ends ≡ status.WriteFault → Rose before.faults after.faults
   pub no_write_fault : ends ≢ status.WriteFault → after.faults ≡ before.faults
-  -- nothing but slot 0 is used
-  pub stays : Stays 0 old new
+  pub leaves : Leaves asked old new

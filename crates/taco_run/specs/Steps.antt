@@ -1,32 +1,51 @@
--- The steps of a call of `run`.
-use Rattle.std.specs.Prelude.{◌≡◌, ◌≢◌, ℕ, ◌<◌, ◌≤◌, List, [], length, take, Option, IfSome, Result, Ok, Err, Vec}
+-- The steps of a call of `run` or `run_plain`.
+use Rattle.std.specs.Prelude.{◌≡◌, ◌≢◌, ℕ, ◌<◌, ◌≤◌, ◌⊎◌, List, [], length, take, Option, IfSome, Result, Ok, Err, Vec, codes}
 use Rattle.std.specs.declared.alloc.Global.{Global}
 use Rattle.std.specs.Io.KnownBytes.{Appends}
-use Rattle.taco_io.specs.declared.transfers.ReadEnd.{ReadEnd}
-use Rattle.taco_io.specs.declared.transfers.ReadEnd.TheVariants as end
 use Rattle.no_memory.specs.declared.NoMemory.{NoMemory}
 use Rattle.taco_io.specs.Counts.{Rose}
-use Rattle.taco_io.specs.Shelf.{Shelf, Stays, IsCalm, NameRose}
+use Rattle.taco_io.specs.Shelf.{Shelf, IsCalm, NameRose}
 use Rattle.taco_io.specs.Taken.{Taken}
 use Rattle.taco_run.specs.declared.answer.Status.{Status}
 use Rattle.taco_run.specs.declared.answer.Status.TheVariants as status
-use Rattle.taco_run.specs.declared.check.Outcome.{Outcome}
+use Rattle.taco_run.specs.declared.outcome.Outcome.{Outcome}
+use Rattle.taco_run.specs.declared.outcome.TextEnd.{TextEnd}
+use Rattle.taco_run.specs.declared.outcome.TextEnd.TheVariants as end
 use Rattle.taco_run.specs.declared.request.Request.{Request}
-use Rattle.taco_run.specs.Headline.{Says, FileRose}
+use Rattle.taco_run.specs.Headline.{Says, FileRose, Leaves}
+use Rattle.taco_run.specs.ProofCommand.{IsTooLong}
+use Rattle.taco_run.specs.Texts.{line, badtext_line}
 
 -- what the reading of a whole file answers of its content, and what it does to the counts
-abbrev pub ReadsFile : List ℕ → ℕ → Shelf → Shelf → Result (Vec ℕ Global) ReadEnd → Type 0
+abbrev pub ReadsFile : List ℕ → ℕ → Shelf → Shelf → Result (Vec ℕ Global) TextEnd → Type 0
 ReadsFile name limit old new (Ok bytes) = IfSome (old.content name) (λ content. bytes.items ≡ content) × (length bytes.items ≤ limit) × IsCalm old new
 ReadsFile name limit old new (Err end.TooLong) = IfSome (old.content name) (λ content. limit < length content) × IsCalm old new
+ReadsFile name limit old new (Err (end.BadText at)) = ⊥
 ReadsFile name limit old new (Err end.Fault) = NameRose name old new
 ReadsFile name limit old new (Err end.NoMemory) = IsCalm old new
 
+-- what a text is taken for: what it is, or the place of its first fault
+abbrev pub TakesFor : {V : Type 0} → (List ℕ → V → Type 0) → (List ℕ → ℕ → Type 0) → List ℕ → Result V TextEnd → Type 0
+TakesFor Is IsNo bytes (Ok v) = Is bytes v
+TakesFor Is IsNo bytes (Err (end.BadText at)) = IsNo bytes at
+TakesFor Is IsNo bytes (Err end.TooLong) = ⊥
+TakesFor Is IsNo bytes (Err end.Fault) = ⊥
+TakesFor Is IsNo bytes (Err end.NoMemory) = Unit {0}
+
+-- what the text of a file is taken for, and what its reading does to the counts
+abbrev pub Fetches : {V : Type 0} → List ℕ → (List ℕ → V → Type 0) → (List ℕ → ℕ → Type 0) → Shelf → Shelf → Result V TextEnd → Type 0
+Fetches name Is IsNo old new (Ok v) = IfSome (old.content name) (λ bytes. Is bytes v) × IsCalm old new
+Fetches name Is IsNo old new (Err (end.BadText at)) = IfSome (old.content name) (λ bytes. IsNo bytes at) × IsCalm old new
+Fetches name Is IsNo old new (Err end.TooLong) = IfSome (old.content name) IsTooLong × IsCalm old new
+Fetches name Is IsNo old new (Err end.Fault) = NameRose name old new
+Fetches name Is IsNo old new (Err end.NoMemory) = IsCalm old new
+
 -- what the request came to, and what was done to the files on the way
-pub record IsAnswered (asked : Option Request) (old new : Shelf) (o : Outcome) : Type 0 where
-  pub says : Says old.content asked o.status o.output.items
-  pub read_fault : o.status ≡ status.ReadFault → FileRose asked old new
-  pub no_read_fault : o.status ≢ status.ReadFault → IsCalm old new
-  pub stays : Stays 0 old new
+pub record IsAnswered (asked : Option Request) (old new : Shelf) (ends : Status) (output : List ℕ) : Type 0 where
+  pub says : Says old.content asked ends output
+  pub read_fault : ends ≡ status.ReadFault → FileRose asked old new
+  pub no_read_fault : ends ≢ status.ReadFault → IsCalm old new
+  pub leaves : Leaves asked old new
 
 -- how the writing of an output ended
 pub record IsWritten (meant : Status) (output : List ℕ) (before after : Taken) (ends : Status) : Type 0 where
@@ -38,6 +57,11 @@ pub record IsWritten (meant : Status) (output : List ℕ) (before after : Taken)
   pub short : ends ≡ status.WriteFault → sent < length output
   pub rose : ends ≡ status.WriteFault → Rose before.faults after.faults
 
+-- an outcome with this output
+pub record IsOutcome (ends : Status) (output : List ℕ) (o : Outcome) : Type 0 where
+  pub status_is : o.status ≡ ends
+  pub told : o.output.items ≡ output
+
 -- an outcome without output
 pub record IsSilent (ends : Status) (o : Outcome) : Type 0 where
   pub status_is : o.status ≡ ends
@@ -47,3 +71,14 @@ pub record IsSilent (ends : Status) (o : Outcome) : Type 0 where
 abbrev pub IsOrNoMemory : Result Outcome NoMemory → Outcome → Type 0
 IsOrNoMemory (Ok o) answered = answered ≡ o
 IsOrNoMemory (Err refused) answered = IsSilent status.NoMemory answered
+
+-- an outcome with this output, or want of memory
+pub record IsEnding (ends : Status) (output : List ℕ) (o : Outcome) : Type 0 where
+  pub is : IsOutcome ends output o ⊎ IsSilent status.NoMemory o
+
+-- how a request ends whose file of this slot gave no value
+abbrev pub EndsText : ℕ → TextEnd → Outcome → Type 0
+EndsText slot (end.BadText at) o = IsEnding (status.BadText slot at) (badtext_line slot at) o
+EndsText slot end.TooLong o = IsEnding (status.TooLong slot) (line (codes "toolong")) o
+EndsText slot end.Fault o = IsSilent status.ReadFault o
+EndsText slot end.NoMemory o = IsSilent status.NoMemory o

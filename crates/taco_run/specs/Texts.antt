@@ -123,3 +123,18 @@ holds_report scope n = line (codes "HOLDS") ++ scope_line scope ++ counts_line n
 
 abbrev pub violated_report : Posed → Counts → Start → Part → List ℕ
 violated_report p n s b = line (codes "VIOLATED") ++ scope_line p.scope ++ counts_line n ++ broken_line p b ++ state_text p s
+
+-- the line about a text that is not of its format: its slot, and the place of its first fault
+abbrev pub badtext_line : ℕ → ℕ → List ℕ
+badtext_line slot at = codes "badtext " ++ (decimal slot ++ (codes " " ++ (decimal at ++ codes "\n")))
+
+-- the lines about a log of so many lines that refutes its formula, and of one that is valid but does not
+abbrev pub refuted_line : ℕ → List ℕ
+refuted_line lines = codes "refuted " ++ (decimal lines ++ codes "\n")
+
+abbrev pub valid_line : ℕ → List ℕ
+valid_line lines = codes "valid " ++ (decimal lines ++ codes "\n")
+
+-- the line about a log whose line of this number is the first that does not follow
+abbrev pub badline_line : ℕ → List ℕ
+badline_line n = codes "badline " ++ (decimal n ++ codes "\n")

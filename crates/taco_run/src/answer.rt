@@ -1,19 +1,26 @@
 ghost use Rattle.std.specs.Prelude.{◌≡◌};
 ghost use Rattle.taco_run.specs.Statuses.{code_of};
 
-/// How a call of `run` ended.
+/// How a call of `run` or `run_plain` ended.
 #[derive(Clone, Copy, Debug, PartialEq, Eq)]
 pub enum Status {
     /// No run within the scope meets the precondition and breaks the contract.
     Holds,
     /// A run does, and it was printed.
     Violated,
+    /// The log was checked: all of its lines follow.
+    Done,
+    /// The log was checked: a line of it does not follow.
+    Broken,
     /// The words are no request.
     Usage,
     /// The text is not of the form that is read so far.
     NotBuilt,
     /// The unit lacks the class, or the class the method.
     NoMethod,
+    /// The text in this slot is not of its format: the place, in bytes from 0, is that of its first
+    /// fault.
+    BadText { slot: u8, at: u32 },
     /// The file of this slot has more bytes than its limit.
     TooLong { slot: u8 },
     /// A file could not be read.
@@ -30,10 +37,10 @@ impl Status {
         ensures { result ≡ code_of self.now }
     {
         match self {
-            Status::Holds => 0,
-            Status::Violated => 1,
+            Status::Holds | Status::Done => 0,
+            Status::Violated | Status::Broken => 1,
             Status::Usage => 2,
-            Status::NotBuilt | Status::NoMethod => 3,
+            Status::NotBuilt | Status::NoMethod | Status::BadText { .. } => 3,
             Status::TooLong { .. } => 4,
             Status::ReadFault => 6,
             Status::WriteFault => 7,
@@ -42,7 +49,7 @@ impl Status {
     }
 }
 
-/// What a call of `run` answers.
+/// What a call of `run` or `run_plain` answers.
 #[derive(Clone, Copy, Debug, PartialEq, Eq)]
 pub struct Answer {
     pub status: Status,

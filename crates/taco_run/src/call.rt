@@ -1,84 +1,70 @@
-ghost use Rattle.std.specs.Prelude.{◌≡◌, ◌≢◌, map, Some};
-ghost use Rattle.taco_io.specs.Shelf.{Stays};
+ghost use Rattle.std.specs.Prelude.{◌≡◌, ◌≢◌, map, codes, Some};
 ghost use Rattle.taco_run.specs.declared.answer.Status.TheVariants as status;
 ghost use Rattle.taco_run.specs.declared.request.Request.TheVariants as request;
-ghost use Rattle.taco_run.specs.Asked.{asked, usual_scope};
+ghost use Rattle.taco_run.specs.Asked.{asked, plain_request, usual_scope};
 ghost use Rattle.taco_run.specs.Headline.{Runs};
-ghost use Rattle.taco_run.specs.Steps.{IsAnswered, IsOrNoMemory, IsSilent, IsWritten, ReadsFile};
+ghost use Rattle.taco_run.specs.Steps.{IsAnswered, IsEnding, IsWritten};
+ghost use Rattle.taco_run.specs.Texts.{line};
 
 use crate::answer::{Answer, Status};
-use crate::check::{Outcome, decide, refusal};
+use crate::check::decide;
+use crate::outcome::{Outcome, ended, or_no_memory, refusal, silent};
+use crate::proof_command::check_log;
+use crate::reading::read_file;
 use crate::request::{Job, Request, RequestFault, request_of};
-use no_memory::NoMemory;
 use std::alloc::Global;
-use taco_io::{Files, Opened, ReadEnd, Sink, read_all, write_all};
+use taco_io::{Files, Sink, write_all};
 
 /// The most bytes of a Java text.
 const JAVA_LIMIT: u32 = 262_144;
 
-/// The whole of a file of at most `limit` bytes.
-fn read_file<F: Files>(
-    alloc: Global,
-    files: &mut F,
-    name: &str,
-    limit: u32,
-) -> Result<Vec<u8>, ReadEnd>
-    ensures reads { ReadsFile name.now limit (F.shelf files.old) (F.shelf files.new) result }
-    ensures stays { Stays 0 (F.shelf files.old) (F.shelf files.new) }
-{
-    match files.open(0, name) {
-        Opened::Ready => match read_all(alloc, files, 0, limit) {
-            Ok(bytes) => Ok(bytes),
-            Err(end) => Err(end),
-        },
-        Opened::Failed => Err(ReadEnd::Fault),
-        Opened::NoMemory => Err(ReadEnd::NoMemory),
-    }
-}
-
-/// An outcome without output.
-fn silent(alloc: Global, status: Status) -> Outcome
-    ensures { IsSilent status result }
-{
-    Outcome {
-        status,
-        output: Vec::new(alloc),
-    }
-}
-
-/// The outcome, or the want of memory.
-fn or_no_memory(alloc: Global, outcome: Result<Outcome, NoMemory>) -> Outcome
-    ensures { IsOrNoMemory outcome result }
-{
-    match outcome {
-        Ok(outcome) => outcome,
-        Err(NoMemory) => silent(alloc, Status::NoMemory),
-    }
-}
-
 /// Does a check.
 fn check_file<F: Files>(alloc: Global, files: &mut F, job: &Job) -> Outcome
     requires { job.now.scope ≡ usual_scope }
-    ensures { IsAnswered (Some (request.Check job.now 0)) (F.shelf files.old) (F.shelf files.new) result }
+    ensures { IsAnswered (Some (request.Check job.now 0)) (F.shelf files.old) (F.shelf files.new) result.status result.output.items }
 {
-    match read_file(alloc, files, job.file.as_str(), JAVA_LIMIT) {
+    match read_file(alloc, files, 0, job.file.as_str(), JAVA_LIMIT) {
         Ok(bytes) => or_no_memory(alloc, decide(alloc, &bytes, job)),
-        Err(ReadEnd::TooLong) => or_no_memory(
-            alloc,
-            refusal(alloc, Status::TooLong { slot: 0 }, "toolong"),
-        ),
-        Err(ReadEnd::Fault) => silent(alloc, Status::ReadFault),
-        Err(ReadEnd::NoMemory) => silent(alloc, Status::NoMemory),
+        Err(end) => ended(alloc, 0, end),
+    }
+}
+
+/// A refusal of words that are no request.
+fn usage(alloc: Global) -> Outcome
+    ensures { IsEnding status.Usage (line (codes "usage")) result }
+{
+    or_no_memory(alloc, refusal(alloc, Status::Usage, "usage"))
+}
+
+/// Does a request of those that `run_plain` serves.
+fn plain_answer<F: Files>(alloc: Global, request: &Request, files: &mut F) -> Outcome
+    ensures { IsAnswered (plain_request (Some request.now)) (F.shelf files.old) (F.shelf files.new) result.status result.output.items }
+{
+    match request {
+        Request::Check(_, _) => usage(alloc),
+        Request::Proof(cnf, log) => check_log(alloc, files, cnf, log),
     }
 }
 
 /// Does what the words ask for.
 fn answer_of<F: Files>(alloc: Global, words: &[&str], files: &mut F) -> Outcome
-    ensures { IsAnswered (asked (map (λ w. w.now) words.now)) (F.shelf files.old) (F.shelf files.new) result }
+    ensures { IsAnswered (asked (map (λ w. w.now) words.now)) (F.shelf files.old) (F.shelf files.new) result.status result.output.items }
 {
     match request_of(alloc, words) {
         Ok(Request::Check(job, _)) => check_file(alloc, files, &job),
-        Err(RequestFault::Usage) => or_no_memory(alloc, refusal(alloc, Status::Usage, "usage")),
+        Ok(request) => plain_answer(alloc, &request, files),
+        Err(RequestFault::Usage) => usage(alloc),
+        Err(RequestFault::NoMemory) => silent(alloc, Status::NoMemory),
+    }
+}
+
+/// Does what the words ask for, if `run_plain` serves it.
+fn plain_answer_of<F: Files>(alloc: Global, words: &[&str], files: &mut F) -> Outcome
+    ensures { IsAnswered (plain_request (asked (map (λ w. w.now) words.now))) (F.shelf files.old) (F.shelf files.new) result.status result.output.items }
+{
+    match request_of(alloc, words) {
+        Ok(request) => plain_answer(alloc, &request, files),
+        Err(RequestFault::Usage) => usage(alloc),
         Err(RequestFault::NoMemory) => silent(alloc, Status::NoMemory),
     }
 }
@@ -95,13 +81,38 @@ fn finish<K: Sink>(sink: &mut K, outcome: &Outcome) -> Status
 }
 
 /// Does what the words of a command line ask for: `check FILE --class C --method M` prints whether
-/// the method keeps its contract within the usual scope. Every other list of words is refused.
-/// The whole output is made before the first byte is pushed.
+/// the method keeps its contract within the usual scope, and what `run_plain` serves is done as there.
+/// Every other list of words is refused. The whole output is made before the first byte is pushed.
 #[tactic(auto, using(crate::proofs::Joining::ran))]
 pub fn run<F: Files, K: Sink>(alloc: Global, words: &[&str], files: &mut F, sink: &mut K) -> Answer
     ensures { Runs (asked (map (λ w. w.now) words.now)) result.status (F.shelf files.old) (F.shelf files.new) (K.taken sink.old) (K.taken sink.new) }
 {
     let outcome = answer_of(alloc, words, files);
+    let status = finish(sink, &outcome);
+    Answer { status }
+}
+
+/// Does what the words of a command line ask for, but for checks: `proof CNF LOG` checks the log in LOG
+/// over the formula in CNF. It prints `refuted N` where each of the N lines follows from the formula's
+/// clauses and the lines before it and the last one is empty, so that the formula has no solution;
+/// `valid N` where they follow and it is not; both are Done. It prints `badline N` with Broken where line
+/// N, counted from 1, is the first that does not follow.
+///
+/// CNF is a DIMACS CNF text, read through slot 0, and LOG is read through slot 1 where CNF holds a
+/// formula; each has at most 4,194,304 bytes. Refusals in their order: `usage` for every other list of
+/// words; for CNF and then for LOG a read fault, `toolong`, and `badtext SLOT AT` with the place of the
+/// first fault in bytes. The cost is the length of the texts and of the hinted clauses, each as often as
+/// it is named. It waits for nobody, and the whole output is made before the first byte is pushed.
+#[tactic(auto, using(crate::proofs::Joining::ran))]
+pub fn run_plain<F: Files, K: Sink>(
+    alloc: Global,
+    words: &[&str],
+    files: &mut F,
+    sink: &mut K,
+) -> Answer
+    ensures { Runs (plain_request (asked (map (λ w. w.now) words.now))) result.status (F.shelf files.old) (F.shelf files.new) (K.taken sink.old) (K.taken sink.new) }
+{
+    let outcome = plain_answer_of(alloc, words, files);
     let status = finish(sink, &outcome);
     Answer { status }
 }

@@ -1,33 +1,19 @@
 ghost use Rattle.std.specs.Prelude.{◌≡◌, ◌<◌, ◌≤◌, length, IfOk};
 ghost use Rattle.taco_run.specs.Asked.{usual_scope};
-ghost use Rattle.taco_run.specs.Decided.{Checks, Decides, IsRefusal, Tells};
+ghost use Rattle.taco_run.specs.Decided.{Checks, Decides, Tells};
 ghost use Rattle.thin_reader.specs.Good.{AllPlain};
 ghost use Rattle.taco_run.specs.Headline.{java_limit};
 
 use crate::answer::Status;
+use crate::outcome::{Outcome, refusal};
 use crate::request::Job;
-use crate::texts::{holds_text, violated_text, word_line};
+use crate::texts::{holds_text, violated_text};
 use boolean_trial::tried;
 use heap_core::Problem;
 use no_memory::NoMemory;
 use std::alloc::Global;
 use taco_unit::Unit;
 use thin_reader::read_unit;
-
-/// What a request comes to: its status, and what is to be printed.
-#[derive(Drop)]
-pub struct Outcome {
-    pub status: Status,
-    pub output: Vec<u8>,
-}
-
-/// A refusal, with its line.
-pub(crate) fn refusal(alloc: Global, status: Status, word: &str) -> Result<Outcome, NoMemory>
-    ensures { IfOk result (IsRefusal status word.now) }
-{
-    let output = word_line(alloc, word)?;
-    Ok(Outcome { status, output })
-}
 
 /// Tries a method of a unit.
 fn try_method(alloc: Global, unit: Unit, method: u8, job: &Job) -> Result<Outcome, NoMemory>

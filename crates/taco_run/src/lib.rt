@@ -5,12 +5,17 @@
 mod answer;
 mod call;
 mod check;
+mod outcome;
+mod proof_command;
+mod reading;
 mod request;
 mod texts;
 
 pub use answer::{Answer, Status};
-pub use call::run;
+pub use call::{run, run_plain};
 pub use request::{Job, Request, RequestFault, Text, request_of};
 
+#[cfg(test)]
+mod proof_tests;
 #[cfg(test)]
 mod tests;

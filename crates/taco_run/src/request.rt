@@ -1,5 +1,6 @@
-ghost use Rattle.std.specs.Prelude.{◌≡◌, ◌==◌, map, string_bytes, IfOk, MatchResult};
-ghost use Rattle.taco_run.specs.Asked.{are_check as are_check_lem, asked, check_of, is_dashed as is_dashed_lem, Requests};
+ghost use Rattle.std.specs.Prelude.{◌≡◌, ◌==◌, length, map, string_bytes, IfOk, MatchResult};
+ghost use Rattle.taco_run.specs.declared.request.Request.TheVariants as request;
+ghost use Rattle.taco_run.specs.Asked.{are_check as are_check_lem, are_proof as are_proof_lem, asked, check_of, is_dashed as is_dashed_lem, Requests};
 
 use heap_core::{Plan, Scope};
 use no_memory::NoMemory;
@@ -54,6 +55,8 @@ pub struct Job {
 pub enum Request {
     /// Whether the method keeps its contract, with a bound on the conflicts of the search, or 0.
     Check(Job, u64),
+    /// Whether the log of the second file follows from the formula of the first.
+    Proof(Text, Text),
 }
 
 /// Why words are no request.
@@ -80,6 +83,13 @@ fn are_check(command: &str, file: &str, class_word: &str, method_word: &str) -> 
     ensures { result ≡ are_check_lem command.now file.now class_word.now method_word.now }
 {
     command == "check" && !is_dashed(file) && class_word == "--class" && method_word == "--method"
+}
+
+/// Whether the words are those of a check of a log.
+fn are_proof(command: &str, cnf: &str, log: &str) -> bool
+    ensures { result ≡ are_proof_lem command.now cnf.now log.now }
+{
+    command == "proof" && !is_dashed(cnf) && !is_dashed(log)
 }
 
 /// A check of a method, with the usual scope and plan.
@@ -110,15 +120,20 @@ fn make_check(alloc: Global, file: &str, class: &str, method: &str) -> Result<Re
     Ok(Request::Check(job, 0))
 }
 
-/// What the words ask for: `check FILE --class C --method M`, in this order, where FILE does not
-/// begin with a dash. Linear in the words.
-#[tactic(auto, using(crate::proofs::Words::asked_of_other))]
-pub fn request_of(alloc: Global, words: &[&str]) -> Result<Request, RequestFault>
+/// A check of a log.
+fn make_proof(alloc: Global, cnf: &str, log: &str) -> Result<Request, NoMemory>
+    ensures { IfOk result (λ made. made ≡ request.Proof cnf.now log.now) }
+{
+    let cnf = Text::new(alloc, cnf)?;
+    let log = Text::new(alloc, log)?;
+    Ok(Request::Proof(cnf, log))
+}
+
+/// What six words ask for.
+fn six_words(alloc: Global, words: &[&str]) -> Result<Request, RequestFault>
+    requires { length words.now ≡ 6 }
     ensures { Requests (asked (map (λ w. w.now) words.now)) result }
 {
-    if words.len() != 6 {
-        return Err(RequestFault::Usage);
-    }
     let [command, file, class_word, class, method_word, method] = words else {
         return Err(RequestFault::Usage);
     };
@@ -129,4 +144,36 @@ pub fn request_of(alloc: Global, words: &[&str]) -> Result<Request, RequestFault
         Ok(request) => Ok(request),
         Err(NoMemory) => Err(RequestFault::NoMemory),
     }
+}
+
+/// What three words ask for.
+fn three_words(alloc: Global, words: &[&str]) -> Result<Request, RequestFault>
+    requires { length words.now ≡ 3 }
+    ensures { Requests (asked (map (λ w. w.now) words.now)) result }
+{
+    let [command, cnf, log] = words else {
+        return Err(RequestFault::Usage);
+    };
+    if !are_proof(command, cnf, log) {
+        return Err(RequestFault::Usage);
+    }
+    match make_proof(alloc, cnf, log) {
+        Ok(request) => Ok(request),
+        Err(NoMemory) => Err(RequestFault::NoMemory),
+    }
+}
+
+/// What the words ask for: `check FILE --class C --method M` or `proof CNF LOG`, in this order, where
+/// FILE, CNF and LOG do not begin with a dash. Linear in the words.
+#[tactic(auto, using(crate::proofs::Words::asked_of_other))]
+pub fn request_of(alloc: Global, words: &[&str]) -> Result<Request, RequestFault>
+    ensures { Requests (asked (map (λ w. w.now) words.now)) result }
+{
+    if words.len() == 6 {
+        return six_words(alloc, words);
+    }
+    if words.len() == 3 {
+        return three_words(alloc, words);
+    }
+    Err(RequestFault::Usage)
 }

@@ -1,6 +1,6 @@
 ghost use Rattle.std.specs.Prelude.{◌≡◌, ℕ, ◌++◌, List, ◌∷◌, [], length, flat_map, zip, string_bytes, decimal, codes, IfOk, OnOk};
 ghost use Rattle.std.specs.Fmt.{signed_decimal};
-ghost use Rattle.taco_run.specs.Texts.{argument_line, broken_line, class_text, counts_line, holds_report, line, no_tuples, object_text, objects_line, params_of, part_text, place_text, plain_state, scope_line, state_text, this_line, value_text, violated_report};
+ghost use Rattle.taco_run.specs.Texts.{argument_line, badline_line, badtext_line, broken_line, class_text, counts_line, holds_report, line, no_tuples, object_text, objects_line, params_of, part_text, place_text, plain_state, refuted_line, scope_line, state_text, this_line, valid_line, value_text, violated_report};
 
 use heap_core::{Part, Problem, Scope, Start, Value};
 use no_memory::NoMemory;
@@ -267,4 +267,36 @@ pub(crate) fn word_line(alloc: Global, word: &str) -> Result<Vec<u8>, NoMemory>
     let mut out = Vec::from_slice(alloc, word.as_bytes())?;
     add(&mut out, b"\n")?;
     Ok(out)
+}
+
+/// The line about a text that is not of its format: its slot, and the place of its first fault.
+pub(crate) fn badtext(alloc: Global, slot: u8, at: u32) -> Result<Vec<u8>, NoMemory>
+    ensures { IfOk result (λ text. text.items ≡ badtext_line slot at) }
+{
+    let text = format!(in alloc; "badtext {slot} {at}\n")?;
+    Ok(text.into_bytes())
+}
+
+/// The line about a log of so many lines that refutes its formula.
+pub(crate) fn refuted(alloc: Global, lines: u32) -> Result<Vec<u8>, NoMemory>
+    ensures { IfOk result (λ text. text.items ≡ refuted_line lines) }
+{
+    let text = format!(in alloc; "refuted {lines}\n")?;
+    Ok(text.into_bytes())
+}
+
+/// The line about a log of so many lines that is valid, and does not end in the empty clause.
+pub(crate) fn valid(alloc: Global, lines: u32) -> Result<Vec<u8>, NoMemory>
+    ensures { IfOk result (λ text. text.items ≡ valid_line lines) }
+{
+    let text = format!(in alloc; "valid {lines}\n")?;
+    Ok(text.into_bytes())
+}
+
+/// The line about a log whose line of this number is the first that does not follow.
+pub(crate) fn badline(alloc: Global, n: u32) -> Result<Vec<u8>, NoMemory>
+    ensures { IfOk result (λ text. text.items ≡ badline_line n) }
+{
+    let text = format!(in alloc; "badline {n}\n")?;
+    Ok(text.into_bytes())
 }

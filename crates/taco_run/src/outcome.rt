@@ -1,0 +1,97 @@
+ghost use Rattle.std.specs.Prelude.{IfOk};
+ghost use Rattle.taco_run.specs.declared.answer.Status.TheVariants as status;
+ghost use Rattle.taco_run.specs.Steps.{EndsText, IsOrNoMemory, IsOutcome, IsSilent};
+ghost use Rattle.taco_run.specs.Texts.{badtext_line, line};
+
+use crate::answer::Status;
+use crate::texts::{badtext, word_line};
+use derivation::TextFault;
+use no_memory::NoMemory;
+use std::alloc::Global;
+
+/// What a request comes to: its status, and what is to be printed.
+#[derive(Drop)]
+pub struct Outcome {
+    pub status: Status,
+    pub output: Vec<u8>,
+}
+
+/// An outcome without output.
+pub(crate) fn silent(alloc: Global, status: Status) -> Outcome
+    ensures { IsSilent status result }
+{
+    Outcome {
+        status,
+        output: Vec::new(alloc),
+    }
+}
+
+/// The outcome, or the want of memory.
+pub(crate) fn or_no_memory(alloc: Global, outcome: Result<Outcome, NoMemory>) -> Outcome
+    ensures { IsOrNoMemory outcome result }
+{
+    match outcome {
+        Ok(outcome) => outcome,
+        Err(NoMemory) => silent(alloc, Status::NoMemory),
+    }
+}
+
+/// A refusal, with its line.
+pub(crate) fn refusal(alloc: Global, status: Status, word: &str) -> Result<Outcome, NoMemory>
+    ensures { IfOk result (IsOutcome status (line word.now)) }
+{
+    let output = word_line(alloc, word)?;
+    Ok(Outcome { status, output })
+}
+
+/// The refusal of the text in this slot, with its line.
+fn bad_text(alloc: Global, slot: u8, at: u32) -> Result<Outcome, NoMemory>
+    ensures { IfOk result (IsOutcome (status.BadText slot at) (badtext_line slot at)) }
+{
+    Ok(Outcome {
+        status: Status::BadText { slot, at },
+        output: badtext(alloc, slot, at)?,
+    })
+}
+
+/// Why the text in a slot gave no value.
+#[derive(Clone, Copy, Debug, PartialEq, Eq)]
+pub enum TextEnd {
+    /// The file could not be read.
+    Fault,
+    /// The file has more bytes than its limit.
+    TooLong,
+    /// The text is not of its format.
+    BadText { at: u32 },
+    /// No memory was to be had.
+    NoMemory,
+}
+
+impl From<TextFault> for TextEnd {
+    ghost use Rattle.std.specs.Prelude.{◌≡◌};
+    ghost use Rattle.taco_run.specs.TextEnds.{end_of};
+
+    ghost from_gives = { λ fault end. end ≡ end_of fault };
+
+    fn from(fault: TextFault) -> TextEnd {
+        match fault {
+            TextFault::BadText { at } => TextEnd::BadText { at },
+            TextFault::NoMemory => TextEnd::NoMemory,
+        }
+    }
+}
+
+/// How a request ends whose text in this slot gave no value.
+pub(crate) fn ended(alloc: Global, slot: u8, end: TextEnd) -> Outcome
+    ensures { EndsText slot end result }
+{
+    match end {
+        TextEnd::BadText { at } => or_no_memory(alloc, bad_text(alloc, slot, at)),
+        TextEnd::TooLong => or_no_memory(
+            alloc,
+            refusal(alloc, Status::TooLong { slot }, "toolong"),
+        ),
+        TextEnd::Fault => silent(alloc, Status::ReadFault),
+        TextEnd::NoMemory => silent(alloc, Status::NoMemory),
+    }
+}
