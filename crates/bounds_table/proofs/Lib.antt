@@ -1,0 +1,16 @@
+pub mod Workers
+pub mod Steps
+pub mod Events
+pub mod Turnover
+pub mod Telling
+pub mod Together
+pub mod Showing
+pub mod Allowed
+pub mod Ties
+pub mod Asking
+pub mod Laying
+pub mod Runs
+pub mod Joining
+pub mod Marking
+pub mod Claiming
+pub mod Claimants

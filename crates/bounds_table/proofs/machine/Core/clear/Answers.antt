@@ -1,0 +1,16 @@
+use Rattle.std.proofs.Common.{arith, ◌≡◌, set, subst, sym}
+use Rattle.std.proofs.lemmas.Grind.{common_steps}
+use Rattle.bounds_table.specs.declared.event.Event.TheVariants.{Clear}
+use Rattle.bounds_table.specs.State.{State, IsSound}
+use Rattle.bounds_table.specs.Core.{IsLawful, after}
+use Rattle.bounds_table.proofs.Runs.{sound_after}
+use Rattle.bounds_table.proofs.machine.Core.clear.Goals as goal
+
+pub invariant_of-self : goal.invariant_of-self
+invariant_of-self c =
+    let i = c.self.inside in
+    let s : State = record { problem = i.problem.value; table = i.table; kept = i.kept; claimed = i.claimed; workers = i.workers.items } in
+    let event = Clear c.args.worker c.args.tuple in
+    let ok : IsLawful s event = subst (λ (n : State). IsLawful n event) (sym c.self.view_is) c.requires in
+    let same : after s event ≡ record s { table = c.set.new.self; workers = set i.workers.items c.args.worker c.saw.new.worker } = grind (arith, common_steps) in
+    (c.self.invariant.0, subst IsSound same (sound_after s event c.self.invariant.1 ok))
