@@ -1,0 +1,9 @@
+pub mod Bridge
+pub mod Count
+pub mod Derives
+pub mod Learning
+pub mod Levels
+pub mod Lits
+pub mod Marking
+pub mod Order
+pub mod Steps

@@ -1,0 +1,83 @@
+ghost use Rattle.std.specs.Prelude.{◌≡◌, ℕ, ◌+◌, ◌/◌, ◌<◌, ◌≤◌, nat_lt, List, [], ◌∷◌, All, length, reverse, filter, slice_index, IfOk};
+ghost use Rattle.std.specs.List.Sorted.{IsPermutation, IsSorted};
+ghost use Rattle.std.specs.Ordering.{nat_cmp};
+
+use cnf_core::Lit;
+use derivation::Line;
+use no_memory::NoMemory;
+use smallvec::SmallVec;
+use std::alloc::Global;
+
+/// A literal, and behind it those of the marked ones that are of lower levels.
+pub(crate) fn gather(
+    alloc: Global,
+    marked: &[Lit],
+    levels: &[u32],
+    level: u32,
+    first: Lit,
+) -> Result<Vec<Lit>, NoMemory>
+    requires { All (λ lit. lit / 2 < length levels.now) marked.now }
+    ensures { IfOk result (λ lits. lits.items ≡ first ∷ filter (λ lit. nat_lt (slice_index levels.now (lit / 2)) level) marked.now) }
+{
+    let mut lits = Vec::new(alloc);
+    lits.push(first)?;
+    for lit in marked {
+        if levels[lit.var() as usize] < level {
+            lits.push(*lit)?;
+        }
+    }
+    Ok(lits)
+}
+
+/// Where behind the first literal one of the highest level stands.
+fn highest(lits: &[Lit], levels: &[u32]) -> usize
+    requires two { 1 < length lits.now }
+    requires table { All (λ lit. lit / 2 < length levels.now) lits.now }
+    ensures from_one { 0 < result }
+    ensures within { result < length lits.now }
+    ensures highest { (k : ℕ) → 0 < k → k < length lits.now
+        → slice_index levels.now (slice_index lits.now k / 2) ≤ slice_index levels.now (slice_index lits.now result / 2) }
+{
+    let mut best = 1;
+    for place in 1..lits.len() {
+        if levels[lits[place].var() as usize] > levels[lits[best].var() as usize] {
+            best = place;
+        }
+    }
+    best
+}
+
+/// Puts a literal of the highest level of those behind the first one second. Answers this level, or 0
+/// where there is none.
+pub(crate) fn raise_highest(lits: &mut Vec<Lit>, levels: &[u32]) -> u32
+    requires table { All (λ lit. lit / 2 < length levels.now) lits.old.items }
+    ensures moved { IsPermutation lits.old.items lits.new.items }
+    ensures first { slice_index lits.new.items 0 ≡ slice_index lits.old.items 0 }
+    ensures second { 1 < length lits.new.items → slice_index levels.now (slice_index lits.new.items 1 / 2) ≡ result }
+    ensures alone { length lits.new.items ≤ 1 → result ≡ 0 }
+    ensures highest { (k : ℕ) → 0 < k → k < length lits.new.items → slice_index levels.now (slice_index lits.new.items k / 2) ≤ result }
+{
+    if lits.len() < 2 {
+        return 0;
+    }
+    let place = highest(lits, levels);
+    let second = lits[1];
+    let raised = lits[place];
+    lits[1] = raised;
+    lits[place] = second;
+    levels[raised.var() as usize]
+}
+
+/// A line of a log: the literals in their order, and the hints from the last one to the first.
+pub(crate) fn line_of(alloc: Global, lits: &[Lit], hints: &[u32]) -> Result<Line, NoMemory>
+    ensures clause { IfOk result (λ line. IsPermutation lits.now line.clause) }
+    ensures sorted { IfOk result (λ line. IsSorted nat_cmp line.clause) }
+    ensures hints { IfOk result (λ line. line.hints ≡ reverse hints.now) }
+{
+    let mut sorted = Vec::from_slice(alloc, lits)?;
+    sorted.sort()?;
+    let backwards: Vec<u32> = hints.iter().rev().copied().collect(alloc)?;
+    let clause = SmallVec::from_slice(alloc, sorted.as_slice())?;
+    let hints = SmallVec::from_slice(alloc, backwards.as_slice())?;
+    Ok(Line { clause, hints })
+}

@@ -1,0 +1,9 @@
+pub mod Beginning
+pub mod Count
+pub mod Holding
+pub mod Loading
+pub mod Moves
+pub mod Quiet
+pub mod Running
+pub mod TableLemmas
+pub mod Turning

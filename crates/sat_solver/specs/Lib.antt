@@ -1,0 +1,5 @@
+pub mod Answers
+pub mod Loading
+pub mod Queued
+pub mod Search
+pub mod Steps
