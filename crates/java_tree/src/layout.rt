@@ -1,6 +1,6 @@
 ghost use Rattle.std.specs.Prelude.{◌≡◌, [], ◌∷◌, ◌++◌, false, IfOk, OnOk};
 ghost use Rattle.java_tree.specs.Seen.{classes_tree};
-ghost use Rattle.java_tree.specs.Print.{laid_out, pieces, sign_between, tree_written};
+ghost use Rattle.java_tree.specs.Print.{bytes_of, laid_out, pieces, sign_between, tree_written};
 ghost use Rattle.java_tree.specs.Spaced.{spaced};
 
 use crate::members::Tree;
@@ -24,7 +24,7 @@ fn push_sign(text: &mut Vec<u8>, before: bool, behind: bool) -> Result<(), NoMem
 
 /// Adds a token with a space behind it.
 fn push_word(text: &mut Vec<u8>, word: &Printed<'_>) -> Result<(), NoMemory>
-    ensures { OnOk result (text.new.items ≡ text.old.items ++ spaced (word.now.1 ∷ [])) }
+    ensures { OnOk result (text.new.items ≡ text.old.items ++ spaced (bytes_of word.now.1 ∷ [])) }
 {
     word.push_to(text)?;
     text.push(b' ')?;

@@ -5,7 +5,7 @@ ghost use Rattle.java_tree.specs.Print.{bracketed_written, fields_written, over_
 use crate::clauses::{JmlNode, JmlTree, ReachTree};
 use crate::names::Ident;
 use crate::print_code::{flag_text, sign_text};
-use crate::printed::{Printed, push, push_number};
+use crate::printed::{Printed, push_number, push_slashed, push_symbol, push_word};
 use java_lex::words::{
     CLOSE_PAREN, COMMA, DOT, EXISTS, FORALL, HAS, INT_SIZE, MINUS, NOT, NULL, OLD, OPEN_PAREN,
     PLUS, REACH, RESULT_VALUE, SEMICOLON, THIS,
@@ -25,58 +25,58 @@ pub(crate) fn push_jml<'a>(words: &mut Vec<Printed<'a>>, tree: &'a JmlTree) -> R
 {
     match &tree.node {
         JmlNode::Num(n) => push_number(words, true, *n),
-        JmlNode::Flag(flag) => push(words, true, flag_text(*flag)),
-        JmlNode::Null => push(words, true, NULL),
-        JmlNode::This => push(words, true, THIS),
-        JmlNode::Result => push(words, true, RESULT_VALUE),
-        JmlNode::Named(name) => push(words, true, name.text.bytes()),
+        JmlNode::Flag(flag) => push_word(words, true, flag_text(*flag)),
+        JmlNode::Null => push_word(words, true, NULL),
+        JmlNode::This => push_word(words, true, THIS),
+        JmlNode::Result => push_slashed(words, true, RESULT_VALUE),
+        JmlNode::Named(name) => push_word(words, true, name.text.bytes()),
         JmlNode::Read(a, name) => {
             push_jml(words, a)?;
-            push(words, true, DOT)?;
-            push(words, true, name.text.bytes())
+            push_symbol(words, true, DOT)?;
+            push_word(words, true, name.text.bytes())
         }
         JmlNode::Paren(a) => push_bracketed(words, a),
         JmlNode::Not(a) => {
-            push(words, true, NOT)?;
+            push_symbol(words, true, NOT)?;
             push_jml(words, a)
         }
         JmlNode::Neg(a) => {
-            push(words, true, MINUS)?;
+            push_symbol(words, true, MINUS)?;
             push_jml(words, a)
         }
         JmlNode::Bin(sign, a, b) => {
             push_jml(words, a)?;
-            push(words, true, sign_text(*sign))?;
+            push_symbol(words, true, sign_text(*sign))?;
             push_jml(words, b)
         }
         JmlNode::Old(a) => {
-            push(words, true, OLD)?;
+            push_slashed(words, true, OLD)?;
             push_bracketed(words, a)
         }
         JmlNode::Quant(all, class, name, None, body) => {
             push_quantifier(words, *all, class, name)?;
             push_jml(words, body)?;
-            push(words, true, CLOSE_PAREN)
+            push_symbol(words, true, CLOSE_PAREN)
         }
         JmlNode::Quant(all, class, name, Some(range), body) => {
             push_quantifier(words, *all, class, name)?;
             push_jml(words, range)?;
-            push(words, true, SEMICOLON)?;
+            push_symbol(words, true, SEMICOLON)?;
             push_jml(words, body)?;
-            push(words, true, CLOSE_PAREN)
+            push_symbol(words, true, CLOSE_PAREN)
         }
         JmlNode::Has(reach, a) => {
             push_reach(words, reach)?;
-            push(words, true, DOT)?;
-            push(words, true, HAS)?;
+            push_symbol(words, true, DOT)?;
+            push_word(words, true, HAS)?;
             push_bracketed(words, a)
         }
         JmlNode::Size(reach) => {
             push_reach(words, reach)?;
-            push(words, true, DOT)?;
-            push(words, true, INT_SIZE)?;
-            push(words, true, OPEN_PAREN)?;
-            push(words, true, CLOSE_PAREN)
+            push_symbol(words, true, DOT)?;
+            push_word(words, true, INT_SIZE)?;
+            push_symbol(words, true, OPEN_PAREN)?;
+            push_symbol(words, true, CLOSE_PAREN)
         }
     }
 }
@@ -86,9 +86,9 @@ pub(crate) fn push_jml<'a>(words: &mut Vec<Printed<'a>>, tree: &'a JmlTree) -> R
 fn push_bracketed<'a>(words: &mut Vec<Printed<'a>>, tree: &'a JmlTree) -> Result<(), NoMemory>
     ensures { OnOk result (words.new.items ≡ words.old.items ++ bracketed_written (written (jml_tree tree.now) true)) }
 {
-    push(words, true, OPEN_PAREN)?;
+    push_symbol(words, true, OPEN_PAREN)?;
     push_jml(words, tree)?;
-    push(words, true, CLOSE_PAREN)
+    push_symbol(words, true, CLOSE_PAREN)
 }
 
 /// Adds the head of a quantifier, up to its first semicolon.
@@ -100,11 +100,11 @@ fn push_quantifier<'a>(
 ) -> Result<(), NoMemory>
     ensures { OnOk result (words.new.items ≡ words.old.items ++ quantifier_written all class.now name.now) }
 {
-    push(words, true, OPEN_PAREN)?;
-    push(words, true, quantifier_text(all))?;
-    push(words, true, class.text.bytes())?;
-    push(words, true, name.text.bytes())?;
-    push(words, true, SEMICOLON)
+    push_symbol(words, true, OPEN_PAREN)?;
+    push_slashed(words, true, quantifier_text(all))?;
+    push_word(words, true, class.text.bytes())?;
+    push_word(words, true, name.text.bytes())?;
+    push_symbol(words, true, SEMICOLON)
 }
 
 /// Adds what is reached from an object.
@@ -112,8 +112,8 @@ fn push_quantifier<'a>(
 fn push_reach<'a>(words: &mut Vec<Printed<'a>>, reach: &'a ReachTree) -> Result<(), NoMemory>
     ensures { OnOk result (words.new.items ≡ words.old.items ++ reach_written (written (reach_root reach.now) true) (reach_class reach.now) (reach_fields reach.now)) }
 {
-    push(words, true, REACH)?;
-    push(words, true, OPEN_PAREN)?;
+    push_slashed(words, true, REACH)?;
+    push_symbol(words, true, OPEN_PAREN)?;
     push_jml(words, &reach.root)?;
     push_fields(words, &reach.class, reach.fields.as_slice())
 }
@@ -126,11 +126,11 @@ fn push_fields<'a>(
 ) -> Result<(), NoMemory>
     ensures { OnOk result (words.new.items ≡ words.old.items ++ over_written class.now fields.now) }
 {
-    push(words, true, COMMA)?;
-    push(words, true, class.text.bytes())?;
-    push(words, true, COMMA)?;
+    push_symbol(words, true, COMMA)?;
+    push_word(words, true, class.text.bytes())?;
+    push_symbol(words, true, COMMA)?;
     push_names(words, fields)?;
-    push(words, true, CLOSE_PAREN)
+    push_symbol(words, true, CLOSE_PAREN)
 }
 
 /// Adds names of fields, parted by `+`.
@@ -140,10 +140,10 @@ fn push_names<'a>(words: &mut Vec<Printed<'a>>, fields: &'a [Ident]) -> Result<(
     let [first, more @ ..] = fields else {
         return Ok(());
     };
-    push(words, true, first.text.bytes())?;
+    push_word(words, true, first.text.bytes())?;
     for field in more {
-        push(words, true, PLUS)?;
-        push(words, true, field.text.bytes())?;
+        push_symbol(words, true, PLUS)?;
+        push_word(words, true, field.text.bytes())?;
     }
     Ok(())
 }

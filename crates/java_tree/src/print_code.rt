@@ -4,7 +4,7 @@ ghost use Rattle.java_tree.specs.Print.{args_written, call_written, flag_text as
 
 use crate::expressions::{JavaNode, JavaTree, Sign};
 use crate::names::Ident;
-use crate::printed::{Printed, push, push_number};
+use crate::printed::{Printed, push_number, push_symbol, push_word};
 use java_lex::words::{
     AND, AT_LEAST, AT_MOST, CLOSE_PAREN, COMMA, DOT, EQUAL, FALSE, GREATER, IFF, IMPLIES, LESS,
     MINUS, NEW, NOT, NOT_EQUAL, NULL, OPEN_PAREN, OR, PLUS, THIS, TIMES, TRUE,
@@ -47,43 +47,43 @@ pub(crate) fn push_java<'a>(
 {
     match &tree.node {
         JavaNode::Num(n) => push_number(words, false, *n),
-        JavaNode::Flag(flag) => push(words, false, flag_text(*flag)),
-        JavaNode::Null => push(words, false, NULL),
-        JavaNode::This => push(words, false, THIS),
+        JavaNode::Flag(flag) => push_word(words, false, flag_text(*flag)),
+        JavaNode::Null => push_word(words, false, NULL),
+        JavaNode::This => push_word(words, false, THIS),
         JavaNode::New(name) => {
-            push(words, false, NEW)?;
-            push(words, false, name.text.bytes())?;
-            push(words, false, OPEN_PAREN)?;
-            push(words, false, CLOSE_PAREN)
+            push_word(words, false, NEW)?;
+            push_word(words, false, name.text.bytes())?;
+            push_symbol(words, false, OPEN_PAREN)?;
+            push_symbol(words, false, CLOSE_PAREN)
         }
-        JavaNode::Named(name) => push(words, false, name.text.bytes()),
+        JavaNode::Named(name) => push_word(words, false, name.text.bytes()),
         JavaNode::Call(name, args) => { push_call(words, name, args.as_slice()) }
         JavaNode::Read(a, name) => {
             push_java(words, a)?;
-            push(words, false, DOT)?;
-            push(words, false, name.text.bytes())
+            push_symbol(words, false, DOT)?;
+            push_word(words, false, name.text.bytes())
         }
         JavaNode::CallOn(a, name, args) => {
             push_java(words, a)?;
-            push(words, false, DOT)?;
+            push_symbol(words, false, DOT)?;
             push_call(words, name, args.as_slice())
         }
         JavaNode::Paren(a) => {
-            push(words, false, OPEN_PAREN)?;
+            push_symbol(words, false, OPEN_PAREN)?;
             push_java(words, a)?;
-            push(words, false, CLOSE_PAREN)
+            push_symbol(words, false, CLOSE_PAREN)
         }
         JavaNode::Not(a) => {
-            push(words, false, NOT)?;
+            push_symbol(words, false, NOT)?;
             push_java(words, a)
         }
         JavaNode::Neg(a) => {
-            push(words, false, MINUS)?;
+            push_symbol(words, false, MINUS)?;
             push_java(words, a)
         }
         JavaNode::Bin(sign, a, b) => {
             push_java(words, a)?;
-            push(words, false, sign_text(*sign))?;
+            push_symbol(words, false, sign_text(*sign))?;
             push_java(words, b)
         }
     }
@@ -98,10 +98,10 @@ fn push_call<'a>(
 ) -> Result<(), NoMemory>
     ensures { OnOk result (words.new.items ≡ words.old.items ++ call_written name.now (args_written (java_trees args.now))) }
 {
-    push(words, false, name.text.bytes())?;
-    push(words, false, OPEN_PAREN)?;
+    push_word(words, false, name.text.bytes())?;
+    push_symbol(words, false, OPEN_PAREN)?;
     push_args(words, args)?;
-    push(words, false, CLOSE_PAREN)
+    push_symbol(words, false, CLOSE_PAREN)
 }
 
 /// Adds the tokens of arguments, parted by commas.
@@ -114,7 +114,7 @@ fn push_args<'a>(words: &mut Vec<Printed<'a>>, args: &'a [JavaTree]) -> Result<(
     };
     push_java(words, first)?;
     for arg in more {
-        push(words, false, COMMA)?;
+        push_symbol(words, false, COMMA)?;
         push_java(words, arg)?;
     }
     Ok(())

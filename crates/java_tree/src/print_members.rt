@@ -8,7 +8,7 @@ use crate::members::{ClassTree, Member, MethodTree, ParamTree, SpecTree};
 use crate::names::{Ident, TypeTree};
 use crate::print_clauses::push_jml;
 use crate::print_statements::{push_block, push_modifiers, type_text};
-use crate::printed::{Printed, push};
+use crate::printed::{Printed, push_symbol, push_word};
 use java_lex::words::{
     CLASS, CLOSE_BRACE, CLOSE_PAREN, COMMA, ENSURES, INVARIANT, OPEN_BRACE, OPEN_PAREN, REQUIRES,
     SEMICOLON, VOID,
@@ -18,14 +18,14 @@ use no_memory::NoMemory;
 /// Adds a clause behind its word.
 fn push_predicate<'a>(
     words: &mut Vec<Printed<'a>>,
-    word: &'a [u8],
+    head: &'a [u8],
     tree: &'a JmlTree,
 ) -> Result<(), NoMemory>
-    ensures { OnOk result (words.new.items ≡ words.old.items ++ predicate_written word.now (jml_tree tree.now)) }
+    ensures { OnOk result (words.new.items ≡ words.old.items ++ predicate_written head.now (jml_tree tree.now)) }
 {
-    push(words, true, word)?;
+    push_word(words, true, head)?;
     push_jml(words, tree)?;
-    push(words, true, SEMICOLON)
+    push_symbol(words, true, SEMICOLON)
 }
 
 fn push_clause<'a>(words: &mut Vec<Printed<'a>>, clause: &'a SpecTree) -> Result<(), NoMemory>
@@ -50,8 +50,8 @@ fn push_param<'a>(words: &mut Vec<Printed<'a>>, param: &'a ParamTree) -> Result<
     ensures { OnOk result (words.new.items ≡ words.old.items ++ param_written (param_tree param.now)) }
 {
     push_modifiers(words, param.mods.as_slice())?;
-    push(words, false, type_text(&param.kind))?;
-    push(words, false, param.name.text.bytes())
+    push_word(words, false, type_text(&param.kind))?;
+    push_word(words, false, param.name.text.bytes())
 }
 
 /// Adds parameters, parted by commas.
@@ -63,7 +63,7 @@ fn push_params<'a>(words: &mut Vec<Printed<'a>>, params: &'a [ParamTree]) -> Res
     };
     push_param(words, first)?;
     for param in more {
-        push(words, false, COMMA)?;
+        push_symbol(words, false, COMMA)?;
         push_param(words, param)?;
     }
     Ok(())
@@ -87,11 +87,11 @@ fn push_head<'a>(
 ) -> Result<(), NoMemory>
     ensures { OnOk result (words.new.items ≡ words.old.items ++ head_written kind.now name.now (map param_tree params.now)) }
 {
-    push(words, false, result_text(kind))?;
-    push(words, false, name.text.bytes())?;
-    push(words, false, OPEN_PAREN)?;
+    push_word(words, false, result_text(kind))?;
+    push_word(words, false, name.text.bytes())?;
+    push_symbol(words, false, OPEN_PAREN)?;
     push_params(words, params)?;
-    push(words, false, CLOSE_PAREN)
+    push_symbol(words, false, CLOSE_PAREN)
 }
 
 fn push_method<'a>(words: &mut Vec<Printed<'a>>, method: &'a MethodTree) -> Result<(), NoMemory>
@@ -115,9 +115,9 @@ fn push_member<'a>(words: &mut Vec<Printed<'a>>, member: &'a Member) -> Result<(
         Member::Invariant(_, tree) => push_predicate(words, INVARIANT, tree),
         Member::Field(mods, kind, name) => {
             push_modifiers(words, mods.as_slice())?;
-            push(words, false, type_text(kind))?;
-            push(words, false, name.text.bytes())?;
-            push(words, false, SEMICOLON)
+            push_word(words, false, type_text(kind))?;
+            push_word(words, false, name.text.bytes())?;
+            push_symbol(words, false, SEMICOLON)
         }
         Member::Method(method) => push_method(words, method),
     }
@@ -127,19 +127,19 @@ fn push_member<'a>(words: &mut Vec<Printed<'a>>, member: &'a Member) -> Result<(
 fn push_members<'a>(words: &mut Vec<Printed<'a>>, members: &'a [Member]) -> Result<(), NoMemory>
     ensures { OnOk result (words.new.items ≡ words.old.items ++ block_written (flat_map part_written (map part_tree members.now))) }
 {
-    push(words, false, OPEN_BRACE)?;
+    push_symbol(words, false, OPEN_BRACE)?;
     for member in members {
         push_member(words, member)?;
     }
-    push(words, false, CLOSE_BRACE)
+    push_symbol(words, false, CLOSE_BRACE)
 }
 
 fn push_class<'a>(words: &mut Vec<Printed<'a>>, class: &'a ClassTree) -> Result<(), NoMemory>
     ensures { OnOk result (words.new.items ≡ words.old.items ++ class_written (class_tree «class».now)) }
 {
     push_modifiers(words, class.mods.as_slice())?;
-    push(words, false, CLASS)?;
-    push(words, false, class.name.text.bytes())?;
+    push_word(words, false, CLASS)?;
+    push_word(words, false, class.name.text.bytes())?;
     push_members(words, class.members.as_slice())
 }
 

@@ -1,11 +1,11 @@
 ghost use Rattle.std.specs.Prelude.{◌≡◌, [], ◌∷◌, ◌++◌, false, map, option_map, OnOk};
 ghost use Rattle.java_tree.specs.Seen.{decl_tree, java_tree, stmt_tree, stmt_trees};
-ghost use Rattle.java_tree.specs.Print.{block_written, condition_written, decl_written, decls_written, modifier_word, modifiers_written, returned_written, stepped_text as stepped_text_lem, stmt_written, stmts_written, type_text as type_text_lem, value_written, w, written};
+ghost use Rattle.java_tree.specs.Print.{block_written, condition_written, decl_written, decls_written, modifier_word, modifiers_written, returned_written, stepped_text as stepped_text_lem, stmt_written, stmts_written, type_text as type_text_lem, symbol, value_written, word, written};
 
 use crate::expressions::JavaTree;
 use crate::names::{ModWord, Modifier, TypeTree};
 use crate::print_code::push_java;
-use crate::printed::{Printed, push};
+use crate::printed::{Printed, push_symbol, push_word};
 use crate::statements::{DeclTree, StmtTree};
 use java_lex::words::{
     ASSIGN, BOOLEAN, CLOSE_BRACE, CLOSE_PAREN, COMMA, DECREMENT, ELSE, IF, INCREMENT, INT,
@@ -18,11 +18,11 @@ fn push_modifier(words: &mut Vec<Printed<'_>>, word: ModWord) -> Result<(), NoMe
     ensures { OnOk result (words.new.items ≡ words.old.items ++ modifier_word word ∷ []) }
 {
     match word {
-        ModWord::Static => push(words, false, STATIC),
-        ModWord::Nullable => push(words, true, NULLABLE),
-        ModWord::NonNull => push(words, true, NON_NULL),
-        ModWord::NullableByDefault => push(words, true, NULLABLE_BY_DEFAULT),
-        ModWord::NonNullByDefault => push(words, true, NON_NULL_BY_DEFAULT),
+        ModWord::Static => push_word(words, false, STATIC),
+        ModWord::Nullable => push_word(words, true, NULLABLE),
+        ModWord::NonNull => push_word(words, true, NON_NULL),
+        ModWord::NullableByDefault => push_word(words, true, NULLABLE_BY_DEFAULT),
+        ModWord::NonNullByDefault => push_word(words, true, NON_NULL_BY_DEFAULT),
     }
 }
 
@@ -55,7 +55,7 @@ fn push_value<'a>(words: &mut Vec<Printed<'a>>, value: &'a Option<JavaTree>) -> 
     match value {
         None => Ok(()),
         Some(value) => {
-            push(words, false, ASSIGN)?;
+            push_symbol(words, false, ASSIGN)?;
             push_java(words, value)
         }
     }
@@ -64,7 +64,7 @@ fn push_value<'a>(words: &mut Vec<Printed<'a>>, value: &'a Option<JavaTree>) -> 
 fn push_decl<'a>(words: &mut Vec<Printed<'a>>, decl: &'a DeclTree) -> Result<(), NoMemory>
     ensures { OnOk result (words.new.items ≡ words.old.items ++ decl_written (decl_tree decl.now)) }
 {
-    push(words, false, decl.name.text.bytes())?;
+    push_word(words, false, decl.name.text.bytes())?;
     push_value(words, &decl.value)
 }
 
@@ -77,7 +77,7 @@ fn push_decls<'a>(words: &mut Vec<Printed<'a>>, decls: &'a [DeclTree]) -> Result
     };
     push_decl(words, first)?;
     for decl in more {
-        push(words, false, COMMA)?;
+        push_symbol(words, false, COMMA)?;
         push_decl(words, decl)?;
     }
     Ok(())
@@ -86,28 +86,28 @@ fn push_decls<'a>(words: &mut Vec<Printed<'a>>, decls: &'a [DeclTree]) -> Result
 /// Adds a condition in brackets behind its word.
 fn push_condition<'a>(
     words: &mut Vec<Printed<'a>>,
-    word: &'a [u8],
+    head: &'a [u8],
     condition: &'a JavaTree,
 ) -> Result<(), NoMemory>
-    ensures { OnOk result (words.new.items ≡ words.old.items ++ (w false word.now ++ condition_written (java_tree condition.now))) }
+    ensures { OnOk result (words.new.items ≡ words.old.items ++ (word false head.now ++ condition_written (java_tree condition.now))) }
 {
-    push(words, false, word)?;
-    push(words, false, OPEN_PAREN)?;
+    push_word(words, false, head)?;
+    push_symbol(words, false, OPEN_PAREN)?;
     push_java(words, condition)?;
-    push(words, false, CLOSE_PAREN)
+    push_symbol(words, false, CLOSE_PAREN)
 }
 
 fn push_returned<'a>(
     words: &mut Vec<Printed<'a>>,
     value: &'a Option<JavaTree>,
 ) -> Result<(), NoMemory>
-    ensures { OnOk result (words.new.items ≡ words.old.items ++ (w false RETURN.now ++ returned_written (option_map java_tree value.now) ++ w false SEMICOLON.now)) }
+    ensures { OnOk result (words.new.items ≡ words.old.items ++ (word false RETURN.now ++ returned_written (option_map java_tree value.now) ++ symbol false SEMICOLON.now)) }
 {
-    push(words, false, RETURN)?;
+    push_word(words, false, RETURN)?;
     if let Some(value) = value {
         push_java(words, value)?;
     }
-    push(words, false, SEMICOLON)
+    push_symbol(words, false, SEMICOLON)
 }
 
 fn push_local<'a>(
@@ -116,12 +116,12 @@ fn push_local<'a>(
     kind: &'a TypeTree,
     decls: &'a [DeclTree],
 ) -> Result<(), NoMemory>
-    ensures { OnOk result (words.new.items ≡ words.old.items ++ (modifiers_written mods.now ++ w false (type_text_lem kind.now) ++ decls_written (map decl_tree decls.now) ++ w false SEMICOLON.now)) }
+    ensures { OnOk result (words.new.items ≡ words.old.items ++ (modifiers_written mods.now ++ word false (type_text_lem kind.now) ++ decls_written (map decl_tree decls.now) ++ symbol false SEMICOLON.now)) }
 {
     push_modifiers(words, mods)?;
-    push(words, false, type_text(kind))?;
+    push_word(words, false, type_text(kind))?;
     push_decls(words, decls)?;
-    push(words, false, SEMICOLON)
+    push_symbol(words, false, SEMICOLON)
 }
 
 fn stepped_text(up: bool) -> &'static [u8]
@@ -140,14 +140,14 @@ pub(crate) fn push_stmt<'a>(
 {
     match stmt {
         StmtTree::Block(stmts) => push_block(words, stmts.as_slice()),
-        StmtTree::Empty => push(words, false, SEMICOLON),
+        StmtTree::Empty => push_symbol(words, false, SEMICOLON),
         StmtTree::If(condition, then, other) => {
             push_condition(words, IF, condition)?;
             push_stmt(words, then)?;
             match other {
                 None => Ok(()),
                 Some(other) => {
-                    push(words, false, ELSE)?;
+                    push_word(words, false, ELSE)?;
                     push_stmt(words, other)
                 }
             }
@@ -165,18 +165,18 @@ pub(crate) fn push_stmt<'a>(
         ),
         StmtTree::Set(target, value) => {
             push_java(words, target)?;
-            push(words, false, ASSIGN)?;
+            push_symbol(words, false, ASSIGN)?;
             push_java(words, value)?;
-            push(words, false, SEMICOLON)
+            push_symbol(words, false, SEMICOLON)
         }
         StmtTree::Step(target, up) => {
             push_java(words, target)?;
-            push(words, false, stepped_text(*up))?;
-            push(words, false, SEMICOLON)
+            push_symbol(words, false, stepped_text(*up))?;
+            push_symbol(words, false, SEMICOLON)
         }
         StmtTree::Run(call) => {
             push_java(words, call)?;
-            push(words, false, SEMICOLON)
+            push_symbol(words, false, SEMICOLON)
         }
     }
 }
@@ -189,9 +189,9 @@ pub(crate) fn push_block<'a>(
 ) -> Result<(), NoMemory>
     ensures { OnOk result (words.new.items ≡ words.old.items ++ block_written (stmts_written (stmt_trees stmts.now))) }
 {
-    push(words, false, OPEN_BRACE)?;
+    push_symbol(words, false, OPEN_BRACE)?;
     for stmt in stmts {
         push_stmt(words, stmt)?;
     }
-    push(words, false, CLOSE_BRACE)
+    push_symbol(words, false, CLOSE_BRACE)
 }

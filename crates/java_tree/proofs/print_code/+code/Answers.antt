@@ -12,8 +12,8 @@ push_java-returns-in-Call t c =
     let P : Expr → Type 0 = λ e. OnOk c.push_call.result (c.push_call.new.words.items ≡ c.args.words.now.items ++ written e false) in
     subst P (sym is) (search rules)
 
-pub push_java-returns-in_ok-push-in-CallOn : goal.push_java-returns-in_ok-push-in-CallOn
-push_java-returns-in_ok-push-in-CallOn t c =
+pub push_java-returns-in_ok-push_symbol-in-CallOn : goal.push_java-returns-in_ok-push_symbol-in-CallOn
+push_java-returns-in_ok-push_symbol-in-CallOn t c =
     let is = ap (java_node c.args.tree.now.at) c.in-CallOn.is ∙ java_call_on c.args.tree.now.at c.in-CallOn.a c.in-CallOn.name c.in-CallOn.args in
     let P : Expr → Type 0 = λ e. OnOk c.push_call-in-CallOn.result (c.push_call-in-CallOn.new.words.items ≡ c.args.words.now.items ++ written e false) in
     subst P (sym is) (grind (arith, common_steps))
