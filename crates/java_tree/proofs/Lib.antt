@@ -1,0 +1,5 @@
+pub mod Rows
+pub mod SpacedLemmas
+pub mod Examples
+pub mod Limits
+pub mod Fronts

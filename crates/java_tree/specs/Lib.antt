@@ -1,0 +1,10 @@
+pub mod Trees
+pub mod Seen
+pub mod Phrases
+pub mod Expressions
+pub mod Statements
+pub mod Members
+pub mod Reading
+pub mod Print
+pub mod Texts
+pub mod Spaced
