@@ -1,5 +1,6 @@
 //! The program: `taco check FILE --class C --method M` prints whether the method keeps its contract,
-//! and `taco proof CNF LOG` whether a log follows from a formula. It ends with the status of the answer.
+//! `taco proof CNF LOG` whether a log follows from a formula, and `taco sat CNF` values that satisfy a
+//! formula or a log that refutes it. It ends with the status of the answer.
 #![tactic(auto)]
 
 use std::alloc::Global;

@@ -32,6 +32,7 @@ decided_by bytes job u is short status.Violated output checks =
 decided_by bytes job u is short status.Done output checks = absurd checks.3
 decided_by bytes job u is short status.Broken output checks = absurd checks.3
 decided_by bytes job u is short (status.BadText slot at) output checks = absurd checks.3
+decided_by bytes job u is short status.Unknown output checks = absurd checks.3
 decided_by bytes job u is short status.Usage output checks = absurd checks.3
 decided_by bytes job u is short status.NotBuilt output checks = absurd checks.3
 decided_by bytes job u is short (status.TooLong slot) output checks = absurd checks.3

@@ -5,6 +5,7 @@ use Rattle.std.proofs.Common.{inl, inr}
 use Rattle.no_memory.specs.declared.NoMemory.{NoMemory}
 use Rattle.taco_io.specs.Shelf.{Shelf, Stays, IsCalm}
 use Rattle.taco_io.specs.Taken.{Taken}
+use Rattle.taco_run.specs.declared.answer.Evidence.{Evidence}
 use Rattle.taco_run.specs.declared.answer.Status.{Status}
 use Rattle.taco_run.specs.declared.answer.Status.TheVariants as status
 use Rattle.taco_run.specs.declared.outcome.Outcome.{Outcome}
@@ -12,7 +13,7 @@ use Rattle.taco_run.specs.declared.request.Job.{Job}
 use Rattle.taco_run.specs.declared.request.Request.{Request}
 use Rattle.taco_run.specs.declared.request.Request.TheVariants as request
 use Rattle.taco_run.specs.Decided.{Decides}
-use Rattle.taco_run.specs.Headline.{java_limit, Holding, IsPosed, IsNoText, LacksMethod, Leaves, Says, Runs}
+use Rattle.taco_run.specs.Headline.{java_limit, Holding, IsPosed, IsNoText, LacksMethod, Leaves, Answers, Says, Runs}
 use Rattle.taco_run.specs.Steps.{IsAnswered, IsSilent, IsOrNoMemory, IsWritten}
 
 -- what holds of these bytes holds of what is told, if it is
@@ -35,6 +36,7 @@ told_too content job bytes status.Violated output same says =
     }
 told_too content job bytes status.Done output same says = says
 told_too content job bytes status.Broken output same says = says
+told_too content job bytes status.Unknown output same says = says
 told_too content job bytes status.Usage output same says = says
 told_too content job bytes status.NotBuilt output same says = (says.0, lifted bytes (content job.file) IsNoText same says.1)
 told_too content job bytes status.NoMethod output same says = (says.0, lifted bytes (content job.file) (λ b. LacksMethod b job) same says.1)
@@ -49,11 +51,12 @@ silent_says : (told : List ℕ → Option (List ℕ)) (asked : Option Request) (
 silent_says told None output silent = silent
 silent_says told (Some (request.Check job budget)) output silent = silent
 silent_says told (Some (request.Proof cnf log)) output silent = silent
+silent_says told (Some (request.Sat cnf budget)) output silent = silent
 
 -- want of memory answers every request
-silent_answered : (asked : Option Request) (old new : Shelf) (o : Outcome) → IsCalm old new → Leaves asked old new → IsSilent status.NoMemory o → IsAnswered asked old new o.status o.output.items
+silent_answered : (asked : Option Request) (old new : Shelf) (o : Outcome) → IsCalm old new → Leaves asked old new → IsSilent status.NoMemory o → IsAnswered asked old new None o.status o.output.items
 silent_answered asked old new o calm leaves silent =
-    subst (λ s. IsAnswered asked old new s o.output.items) (sym silent.status_is) (record {
+    subst (λ s. IsAnswered asked old new None s o.output.items) (sym silent.status_is) (record {
       says = silent_says old.content asked o.output.items silent.silent;
       read_fault = λ is. absurd (cc);
       no_read_fault = λ none. calm;
@@ -66,16 +69,16 @@ leaves_check job budget old new stays = record { content = stays.content; faults
 
 -- the check of a file that was read
 pub answered_ok : (job : Job) (old new : Shelf) (bytes : List ℕ) (r : Result Outcome NoMemory) (o : Outcome) → IfSome (old.content job.file) (λ xs. bytes ≡ xs) → IsCalm old new → Stays 0 old new
-    → IfOk r (Decides bytes job) → IsOrNoMemory r o → IsAnswered (Some (request.Check job 0)) old new o.status o.output.items
+    → IfOk r (Decides bytes job) → IsOrNoMemory r o → IsAnswered (Some (request.Check job 0)) old new None o.status o.output.items
 answered_ok job old new bytes (Ok d) o told calm stays decides is =
-    let answered : IsAnswered (Some (request.Check job 0)) old new d.status d.output.items =
+    let answered : IsAnswered (Some (request.Check job 0)) old new None d.status d.output.items =
     record {
       says = told_too old.content job bytes d.status d.output.items told decides.by;
       read_fault = λ fault. absurd (decides.no_fault fault);
       no_read_fault = λ none. calm;
       leaves = leaves_check job 0 old new stays;
     } in
-    subst (λ x. IsAnswered (Some (request.Check job 0)) old new x.status x.output.items) (sym is) answered
+    subst (λ x. IsAnswered (Some (request.Check job 0)) old new None x.status x.output.items) (sym is) answered
 answered_ok job old new bytes (Err refused) o told calm stays decides silent = silent_answered (Some (request.Check job 0)) old new o calm (leaves_check job 0 old new stays) silent
 
 -- either the writing failed or it did not
@@ -84,6 +87,7 @@ cut_or_not status.Holds = inr (λ is. cc)
 cut_or_not status.Violated = inr (λ is. cc)
 cut_or_not status.Done = inr (λ is. cc)
 cut_or_not status.Broken = inr (λ is. cc)
+cut_or_not status.Unknown = inr (λ is. cc)
 cut_or_not status.Usage = inr (λ is. cc)
 cut_or_not status.NotBuilt = inr (λ is. cc)
 cut_or_not status.NoMethod = inr (λ is. cc)
@@ -93,35 +97,40 @@ cut_or_not status.ReadFault = inr (λ is. cc)
 cut_or_not status.WriteFault = inl refl
 cut_or_not status.NoMemory = inr (λ is. cc)
 
-read_fault_silent : (told : List ℕ → Option (List ℕ)) (asked : Option Request) (output : List ℕ) → Says told asked status.ReadFault output → output ≡ []
-read_fault_silent told None output says = absurd says
-read_fault_silent told (Some (request.Check job budget)) output says = says
-read_fault_silent told (Some (request.Proof cnf log)) output says = says
+read_fault_silent : (proof : Option Evidence) (told : List ℕ → Option (List ℕ)) (asked : Option Request) (output : List ℕ) → Answers proof told asked status.ReadFault output → output ≡ []
+read_fault_silent None told None output says = absurd says
+read_fault_silent None told (Some (request.Check job budget)) output says = says
+read_fault_silent None told (Some (request.Proof cnf log)) output says = says
+read_fault_silent None told (Some (request.Sat cnf budget)) output says = says
+read_fault_silent (Some proof) told None output says = absurd says
+read_fault_silent (Some proof) told (Some (request.Check job budget)) output says = absurd says
+read_fault_silent (Some proof) told (Some (request.Proof cnf log)) output says = absurd says
+read_fault_silent (Some proof) told (Some (request.Sat cnf budget)) output says = absurd says.verdict
 
 -- a call that does not end with ReadFault had none
-no_hidden_fault : (asked : Option Request) (old new : Shelf) (before after : Taken) (o : Outcome) (ends : Status) → IsAnswered asked old new o.status o.output.items → IsWritten o.status o.output.items before after ends
+no_hidden_fault : (asked : Option Request) (old new : Shelf) (before after : Taken) (proof : Option Evidence) (o : Outcome) (ends : Status) → IsAnswered asked old new proof o.status o.output.items → IsWritten o.status o.output.items before after ends
     → ends ≢ status.ReadFault → (ends ≡ status.WriteFault) ⊎ (ends ≢ status.WriteFault) → o.status ≢ status.ReadFault
-no_hidden_fault asked old new before after o ends answered written none (inl cut) fault =
-    let silent : o.output.items ≡ [] = read_fault_silent old.content asked o.output.items (subst (λ s. Says old.content asked s o.output.items) fault answered.says) in
+no_hidden_fault asked old new before after proof o ends answered written none (inl cut) fault =
+    let silent : o.output.items ≡ [] = read_fault_silent proof old.content asked o.output.items (subst (λ s. Answers proof old.content asked s o.output.items) fault answered.says) in
     let short = written.short cut in
     omega (arith, ap length silent)
-no_hidden_fault asked old new before after o ends answered written none (inr whole) fault = none (written.same whole ∙ fault)
+no_hidden_fault asked old new before after proof o ends answered written none (inr whole) fault = none (written.same whole ∙ fault)
 
 -- an outcome and its writing make a call
-pub ran : (asked : Option Request) (old new : Shelf) (before after : Taken) (o : Outcome) (ends : Status) → IsAnswered asked old new o.status o.output.items → IsWritten o.status o.output.items before after ends
-    → Runs asked ends old new before after
-ran asked old new before after o ends answered written =
+pub ran : (asked : Option Request) (old new : Shelf) (before after : Taken) (proof : Option Evidence) (o : Outcome) (ends : Status) → IsAnswered asked old new proof o.status o.output.items → IsWritten o.status o.output.items before after ends
+    → Runs asked proof ends old new before after
+ran asked old new before after proof o ends answered written =
     record {
       told = λ whole. record {
         output = o.output.items;
-        says = subst (λ s. Says old.content asked s o.output.items) (sym (written.same whole)) answered.says;
+        says = subst (λ s. Answers proof old.content asked s o.output.items) (sym (written.same whole)) answered.says;
         printed = written.whole whole;
       };
       cut = λ is. record { meant = o.status; output = o.output.items; sent = written.sent; says = answered.says; front = written.front is };
       read_fault = λ fault.
           let whole : ends ≢ status.WriteFault = λ is. let same : status.ReadFault ≡ status.WriteFault = sym fault ∙ is in cc in
           answered.read_fault (sym (written.same whole) ∙ fault);
-      no_read_fault = λ none. answered.no_read_fault (no_hidden_fault asked old new before after o ends answered written none (cut_or_not ends));
+      no_read_fault = λ none. answered.no_read_fault (no_hidden_fault asked old new before after proof o ends answered written none (cut_or_not ends));
       write_fault = written.rose;
       no_write_fault = written.calm;
       leaves = answered.leaves;

@@ -5,3 +5,5 @@ pub mod Plainly
 pub mod Words
 pub mod Joining
 pub mod Formulas
+pub mod Numbers
+pub mod Searching

@@ -1,7 +1,7 @@
 -- What a call of `run` or `run_plain` does.
 --
 -- It speaks of the contents that the files tell of the files that are asked about, of the bytes that the
--- sink tells, and of the status. Want of memory is the one free answer.
+-- sink tells, of the status, and of the evidence. Want of memory is the one free answer.
 use Rattle.std.specs.Prelude.{◌≡◌, ◌≢◌, ℕ, ◌<◌, ◌≤◌, ◌⊎◌, List, [], length, take, Option, Some, None, IfSome, codes}
 use Rattle.std.specs.Io.KnownBytes.{Appends}
 use Rattle.taco_unit.specs.Parts.{Parts}
@@ -15,12 +15,14 @@ use Rattle.taco_io.specs.Counts.{Rose}
 use Rattle.taco_io.specs.Shelf.{Shelf, IsCalm, NameRose}
 use Rattle.taco_io.specs.Taken.{Taken}
 use Rattle.thin_reader.specs.Units.{Reads}
+use Rattle.taco_run.specs.declared.answer.Evidence.{Evidence}
 use Rattle.taco_run.specs.declared.answer.Status.{Status}
 use Rattle.taco_run.specs.declared.answer.Status.TheVariants as status
 use Rattle.taco_run.specs.declared.request.Job.{Job}
 use Rattle.taco_run.specs.declared.request.Request.{Request}
 use Rattle.taco_run.specs.declared.request.Request.TheVariants as request
 use Rattle.taco_run.specs.ProofCommand.{IsTooLong, IsNoFormula, IsNoLog, IsJudged, HoldsFormula, LiesIn}
+use Rattle.taco_run.specs.SatCommand.{IsSearched}
 use Rattle.taco_run.specs.Texts.{line, no_tuples, holds_report, violated_report, badtext_line}
 
 -- the most bytes of a Java text
@@ -67,7 +69,7 @@ pub record TellsBreach (told : Option (List ℕ)) (job : Job) (output : List ℕ
   pub violates : Violates problem start broken
   pub report : output ≡ violated_report problem no_tuples start broken
 
--- the output that a status calls for, and the cause that it has; every other pair may not come
+-- the output that a status calls for without evidence, and the cause that it has; every other pair may not come
 abbrev pub Says : (told : List ℕ → Option (List ℕ)) → Option Request → Status → List ℕ → Type 0
 -- holds is sound
 Says told (Some (request.Check job budget)) status.Holds output = (output ≡ holds_report job.scope no_tuples) × IfSome (told job.file) (λ bytes. Holding bytes job)
@@ -86,23 +88,36 @@ Says told (Some (request.Proof cnf log)) (status.BadText slot at) output =
     (output ≡ badtext_line slot at) × LiesIn told cnf log slot (λ bytes. IsNoFormula bytes at) (λ vars bytes. IsNoLog vars bytes at)
 Says told (Some (request.Proof cnf log)) (status.TooLong slot) output =
     (output ≡ line (codes "toolong")) × LiesIn told cnf log slot IsTooLong (λ vars. IsTooLong)
+Says told (Some (request.Sat cnf budget)) (status.BadText slot at) output = (output ≡ badtext_line slot at) × (slot ≡ 0) × IfSome (told cnf) (λ bytes. IsNoFormula bytes at)
+Says told (Some (request.Sat cnf budget)) (status.TooLong slot) output = (output ≡ line (codes "toolong")) × (slot ≡ 0) × IfSome (told cnf) IsTooLong
 -- faults that write nothing
 Says told (Some (request.Check job budget)) status.ReadFault output = output ≡ []
 Says told (Some (request.Proof cnf log)) status.ReadFault output = output ≡ []
+Says told (Some (request.Sat cnf budget)) status.ReadFault output = output ≡ []
 Says told asked status.NoMemory output = output ≡ []
 Says told asked _ output = ⊥
+
+-- the evidence that goes with an output: each verdict of a search has some, and nothing else has
+abbrev pub Answers : Option Evidence → (told : List ℕ → Option (List ℕ)) → Option Request → Status → List ℕ → Type 0
+Answers None told asked ends output = Says told asked ends output
+Answers (Some proof) told None ends output = ⊥
+Answers (Some proof) told (Some (request.Check job budget)) ends output = ⊥
+Answers (Some proof) told (Some (request.Proof cnf log)) ends output = ⊥
+Answers (Some proof) told (Some (request.Sat cnf budget)) ends output = IsSearched told cnf budget proof ends output
 
 -- the count of a file that is asked about rose; the log is only looked at where the other file holds a formula
 abbrev pub FileRose : Option Request → Shelf → Shelf → Type 0
 FileRose None old new = ⊥
 FileRose (Some (request.Check job budget)) old new = NameRose job.file old new
 FileRose (Some (request.Proof cnf log)) old new = NameRose cnf old new ⊎ ((formula : Clauses) × HoldsFormula old.content cnf formula × NameRose log old new)
+FileRose (Some (request.Sat cnf budget)) old new = NameRose cnf old new
 
 -- the request reads through this slot: FILE and CNF through slot 0, LOG through slot 1
 abbrev pub Uses : Option Request → ℕ → Type 0
 Uses None slot = ⊥
 Uses (Some (request.Check job budget)) slot = slot ≡ 0
 Uses (Some (request.Proof cnf log)) slot = (slot ≡ 0) ⊎ (slot ≡ 1)
+Uses (Some (request.Sat cnf budget)) slot = slot ≡ 0
 
 -- no content changed, no count fell, and the slots that the request does not use are as they were
 pub record Leaves (asked : Option Request) (old new : Shelf) : Type 0 where
@@ -112,25 +127,25 @@ pub record Leaves (asked : Option Request) (old new : Shelf) : Type 0 where
   pub rest : (slot : ℕ) → (Uses asked slot → ⊥) → new.rest slot ≡ old.rest slot
 
 -- the output was cut: its first bytes went out, of one that another status calls for
-pub record IsCut (told : List ℕ → Option (List ℕ)) (asked : Option Request) (before after : Taken) : Type 0 where
+pub record IsCut (proof : Option Evidence) (told : List ℕ → Option (List ℕ)) (asked : Option Request) (before after : Taken) : Type 0 where
   pub meant : Status
   pub output : List ℕ
   pub sent : ℕ
-  pub says : Says told asked meant output
+  pub says : Answers proof told asked meant output
   pub front : Appends before.bytes after.bytes (take sent output)
 
 -- the sink gained exactly the output that the status calls for
-pub record IsTold (told : List ℕ → Option (List ℕ)) (asked : Option Request) (ends : Status) (before after : Taken) : Type 0 where
+pub record IsTold (proof : Option Evidence) (told : List ℕ → Option (List ℕ)) (asked : Option Request) (ends : Status) (before after : Taken) : Type 0 where
   pub output : List ℕ
-  pub says : Says told asked ends output
+  pub says : Answers proof told asked ends output
   pub printed : Appends before.bytes after.bytes output
 
 -- the headline
-pub record Runs (asked : Option Request) (ends : Status) (old new : Shelf) (before after : Taken) : Type 0 where
+pub record Runs (asked : Option Request) (proof : Option Evidence) (ends : Status) (old new : Shelf) (before after : Taken) : Type 0 where
   -- the status has its cause, and its output was printed
-  pub told : ends ≢ status.WriteFault → IsTold old.content asked ends before after
-  -- with WriteFault what went out is a prefix of what another status calls for
-  pub cut : ends ≡ status.WriteFault → IsCut old.content asked before after
+  pub told : ends ≢ status.WriteFault → IsTold proof old.content asked ends before after
+  -- with WriteFault what went out is a prefix of what another status calls for, which has the same evidence
+  pub cut : ends ≡ status.WriteFault → IsCut proof old.content asked before after
   -- faults come only where a count rose, and no fault is passed over
   pub read_fault : ends ≡ status.ReadFault → FileRose asked old new
   pub no_read_fault : ends ≢ status.ReadFault → IsCalm old new

@@ -3,6 +3,8 @@ pub mod Statuses
 pub mod Texts
 pub mod TextEnds
 pub mod ProofCommand
+pub mod SatCommand
 pub mod Headline
 pub mod Decided
 pub mod Steps
+pub mod Searches

@@ -3,9 +3,9 @@ use Rattle.std.specs.Prelude.{ℕ}
 use Rattle.taco_run.specs.declared.answer.Status.{Status}
 use Rattle.taco_run.specs.declared.answer.Status.TheVariants as status
 
--- HOLDS and a valid log 0, VIOLATED and a log with a bad line 1, words that are no request 2, an input that is
--- refused 3, one that is too long 4, a file that cannot be read 6, an output that cannot be written 7, want of
--- memory 8
+-- HOLDS, a valid log, values and a refutation 0, VIOLATED and a log with a bad line 1, words that are no request 2,
+-- an input that is refused 3, one that is too long 4, a spent budget 5, a file that cannot be read 6, an output that
+-- cannot be written 7, want of memory 8
 abbrev pub code_of : Status → ℕ
 code_of status.Holds = 0
 code_of status.Violated = 1
@@ -16,6 +16,7 @@ code_of status.NotBuilt = 3
 code_of status.NoMethod = 3
 code_of (status.BadText slot at) = 3
 code_of (status.TooLong slot) = 4
+code_of status.Unknown = 5
 code_of status.ReadFault = 6
 code_of status.WriteFault = 7
 code_of status.NoMemory = 8

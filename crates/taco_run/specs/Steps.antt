@@ -6,13 +6,14 @@ use Rattle.no_memory.specs.declared.NoMemory.{NoMemory}
 use Rattle.taco_io.specs.Counts.{Rose}
 use Rattle.taco_io.specs.Shelf.{Shelf, IsCalm, NameRose}
 use Rattle.taco_io.specs.Taken.{Taken}
+use Rattle.taco_run.specs.declared.answer.Evidence.{Evidence}
 use Rattle.taco_run.specs.declared.answer.Status.{Status}
 use Rattle.taco_run.specs.declared.answer.Status.TheVariants as status
 use Rattle.taco_run.specs.declared.outcome.Outcome.{Outcome}
 use Rattle.taco_run.specs.declared.outcome.TextEnd.{TextEnd}
 use Rattle.taco_run.specs.declared.outcome.TextEnd.TheVariants as end
 use Rattle.taco_run.specs.declared.request.Request.{Request}
-use Rattle.taco_run.specs.Headline.{Says, FileRose, Leaves}
+use Rattle.taco_run.specs.Headline.{Answers, FileRose, Leaves}
 use Rattle.taco_run.specs.ProofCommand.{IsTooLong}
 use Rattle.taco_run.specs.Texts.{line, badtext_line}
 
@@ -41,8 +42,8 @@ Fetches name Is IsNo old new (Err end.Fault) = NameRose name old new
 Fetches name Is IsNo old new (Err end.NoMemory) = IsCalm old new
 
 -- what the request came to, and what was done to the files on the way
-pub record IsAnswered (asked : Option Request) (old new : Shelf) (ends : Status) (output : List ℕ) : Type 0 where
-  pub says : Says old.content asked ends output
+pub record IsAnswered (asked : Option Request) (old new : Shelf) (proof : Option Evidence) (ends : Status) (output : List ℕ) : Type 0 where
+  pub says : Answers proof old.content asked ends output
   pub read_fault : ends ≡ status.ReadFault → FileRose asked old new
   pub no_read_fault : ends ≢ status.ReadFault → IsCalm old new
   pub leaves : Leaves asked old new

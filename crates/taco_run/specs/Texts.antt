@@ -1,8 +1,10 @@
 -- The texts that are printed: lines that end with LF, with decimal numbers.
-use Rattle.std.specs.Prelude.{ℕ, true, false, List, [], ◌∷◌, ◌++◌, length, flat_map, zip, slice_get, decimal, codes}
+use Rattle.std.specs.Prelude.{ℕ, Bool, true, false, List, [], ◌∷◌, ◌++◌, length, flat_map, zip, slice_get, decimal, codes, if◌then◌else◌}
 use Rattle.std.specs.List.{enumerate_from}
 use Rattle.std.specs.Option.{option_map_or}
 use Rattle.std.specs.Fmt.{signed_decimal}
+use Rattle.derivation.specs.LogText.{text_of_log}
+use Rattle.derivation.specs.Step.{Step}
 use Rattle.taco_unit.specs.declared.unit.ParamDef.{ParamDef}
 use Rattle.heap_core.specs.declared.problem.Scope.{Scope}
 use Rattle.heap_core.specs.declared.value.Value.{Value}
@@ -138,3 +140,18 @@ valid_line lines = codes "valid " ++ (decimal lines ++ codes "\n")
 -- the line about a log whose line of this number is the first that does not follow
 abbrev pub badline_line : ℕ → List ℕ
 badline_line n = codes "badline " ++ (decimal n ++ codes "\n")
+
+-- a variable as a literal that is true under its value, behind a space
+abbrev pub literal_word : ℕ × Bool → List ℕ
+literal_word e = (if e.1 then codes " " else codes " -") ++ decimal e.0
+
+-- the line of values, of which the first is that of variable 1: `v`, a literal for each variable, and `0`
+abbrev pub values_line : List Bool → List ℕ
+values_line values = codes "v" ++ flat_map literal_word (enumerate_from 1 values) ++ codes " 0\n"
+
+-- the text of values that satisfy a formula, and that of a log that refutes it
+abbrev pub satisfiable_text : List Bool → List ℕ
+satisfiable_text values = codes "s SATISFIABLE\n" ++ values_line values
+
+abbrev pub unsatisfiable_text : List Step → List ℕ
+unsatisfiable_text steps = codes "s UNSATISFIABLE\n" ++ text_of_log steps

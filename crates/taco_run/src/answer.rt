@@ -1,6 +1,9 @@
 ghost use Rattle.std.specs.Prelude.{◌≡◌};
 ghost use Rattle.taco_run.specs.Statuses.{code_of};
 
+use cnf_core::Cnf;
+use derivation::Log;
+
 /// How a call of `run` or `run_plain` ended.
 #[derive(Clone, Copy, Debug, PartialEq, Eq)]
 pub enum Status {
@@ -8,10 +11,13 @@ pub enum Status {
     Holds,
     /// A run does, and it was printed.
     Violated,
-    /// The log was checked: all of its lines follow.
+    /// It was done: the log was checked and all of its lines follow, or values or a refutation were
+    /// found.
     Done,
     /// The log was checked: a line of it does not follow.
     Broken,
+    /// The search learnt as many lines as its budget says, without a verdict.
+    Unknown,
     /// The words are no request.
     Usage,
     /// The text is not of the form that is read so far.
@@ -42,6 +48,7 @@ impl Status {
             Status::Usage => 2,
             Status::NotBuilt | Status::NoMethod | Status::BadText { .. } => 3,
             Status::TooLong { .. } => 4,
+            Status::Unknown => 5,
             Status::ReadFault => 6,
             Status::WriteFault => 7,
             Status::NoMemory => 8,
@@ -49,8 +56,21 @@ impl Status {
     }
 }
 
+/// What a verdict rests on.
+#[derive(Drop)]
+pub struct Evidence {
+    /// The formula that was searched.
+    pub cnf: Cnf,
+    /// The lines that were learnt, of which each follows from the formula and the lines before it.
+    pub log: Log,
+    /// The formula's variables that stand for tuples of a heap; a formula that was read has none.
+    pub tuple_vars: Vec<u32>,
+}
+
 /// What a call of `run` or `run_plain` answers.
-#[derive(Clone, Copy, Debug, PartialEq, Eq)]
+#[derive(Drop)]
 pub struct Answer {
     pub status: Status,
+    /// It is there with each verdict of `sat`, also where its output could not be written.
+    pub proof: Option<Evidence>,
 }

@@ -1,4 +1,4 @@
-ghost use Rattle.std.specs.Prelude.{◌≡◌, ◌≢◌, map, codes, Some};
+ghost use Rattle.std.specs.Prelude.{◌≡◌, ◌≢◌, map, codes, Some, None};
 ghost use Rattle.taco_run.specs.declared.answer.Status.TheVariants as status;
 ghost use Rattle.taco_run.specs.declared.request.Request.TheVariants as request;
 ghost use Rattle.taco_run.specs.Asked.{asked, plain_request, usual_scope};
@@ -8,10 +8,11 @@ ghost use Rattle.taco_run.specs.Texts.{line};
 
 use crate::answer::{Answer, Status};
 use crate::check::decide;
-use crate::outcome::{Outcome, ended, or_no_memory, refusal, silent};
+use crate::outcome::{Outcome, Reply, ended, or_no_memory, plain, refusal, silent};
 use crate::proof_command::check_log;
 use crate::reading::read_file;
 use crate::request::{Job, Request, RequestFault, request_of};
+use crate::sat_command::search_formula;
 use std::alloc::Global;
 use taco_io::{Files, Sink, write_all};
 
@@ -21,7 +22,7 @@ const JAVA_LIMIT: u32 = 262_144;
 /// Does a check.
 fn check_file<F: Files>(alloc: Global, files: &mut F, job: &Job) -> Outcome
     requires { job.now.scope ≡ usual_scope }
-    ensures { IsAnswered (Some (request.Check job.now 0)) (F.shelf files.old) (F.shelf files.new) result.status result.output.items }
+    ensures { IsAnswered (Some (request.Check job.now 0)) (F.shelf files.old) (F.shelf files.new) None result.status result.output.items }
 {
     match read_file(alloc, files, 0, job.file.as_str(), JAVA_LIMIT) {
         Ok(bytes) => or_no_memory(alloc, decide(alloc, &bytes, job)),
@@ -37,35 +38,36 @@ fn usage(alloc: Global) -> Outcome
 }
 
 /// Does a request of those that `run_plain` serves.
-fn plain_answer<F: Files>(alloc: Global, request: &Request, files: &mut F) -> Outcome
-    ensures { IsAnswered (plain_request (Some request.now)) (F.shelf files.old) (F.shelf files.new) result.status result.output.items }
+fn plain_answer<F: Files>(alloc: Global, request: &Request, files: &mut F) -> Reply
+    ensures { IsAnswered (plain_request (Some request.now)) (F.shelf files.old) (F.shelf files.new) result.proof result.outcome.status result.outcome.output.items }
 {
     match request {
-        Request::Check(_, _) => usage(alloc),
-        Request::Proof(cnf, log) => check_log(alloc, files, cnf, log),
+        Request::Check(_, _) => plain(usage(alloc)),
+        Request::Proof(cnf, log) => plain(check_log(alloc, files, cnf, log)),
+        Request::Sat(cnf, budget) => search_formula(alloc, files, cnf, *budget),
     }
 }
 
 /// Does what the words ask for.
-fn answer_of<F: Files>(alloc: Global, words: &[&str], files: &mut F) -> Outcome
-    ensures { IsAnswered (asked (map (λ w. w.now) words.now)) (F.shelf files.old) (F.shelf files.new) result.status result.output.items }
+fn answer_of<F: Files>(alloc: Global, words: &[&str], files: &mut F) -> Reply
+    ensures { IsAnswered (asked (map (λ w. w.now) words.now)) (F.shelf files.old) (F.shelf files.new) result.proof result.outcome.status result.outcome.output.items }
 {
     match request_of(alloc, words) {
-        Ok(Request::Check(job, _)) => check_file(alloc, files, &job),
+        Ok(Request::Check(job, _)) => plain(check_file(alloc, files, &job)),
         Ok(request) => plain_answer(alloc, &request, files),
-        Err(RequestFault::Usage) => usage(alloc),
-        Err(RequestFault::NoMemory) => silent(alloc, Status::NoMemory),
+        Err(RequestFault::Usage) => plain(usage(alloc)),
+        Err(RequestFault::NoMemory) => plain(silent(alloc, Status::NoMemory)),
     }
 }
 
 /// Does what the words ask for, if `run_plain` serves it.
-fn plain_answer_of<F: Files>(alloc: Global, words: &[&str], files: &mut F) -> Outcome
-    ensures { IsAnswered (plain_request (asked (map (λ w. w.now) words.now))) (F.shelf files.old) (F.shelf files.new) result.status result.output.items }
+fn plain_answer_of<F: Files>(alloc: Global, words: &[&str], files: &mut F) -> Reply
+    ensures { IsAnswered (plain_request (asked (map (λ w. w.now) words.now))) (F.shelf files.old) (F.shelf files.new) result.proof result.outcome.status result.outcome.output.items }
 {
     match request_of(alloc, words) {
         Ok(request) => plain_answer(alloc, &request, files),
-        Err(RequestFault::Usage) => usage(alloc),
-        Err(RequestFault::NoMemory) => silent(alloc, Status::NoMemory),
+        Err(RequestFault::Usage) => plain(usage(alloc)),
+        Err(RequestFault::NoMemory) => plain(silent(alloc, Status::NoMemory)),
     }
 }
 
@@ -85,11 +87,11 @@ fn finish<K: Sink>(sink: &mut K, outcome: &Outcome) -> Status
 /// Every other list of words is refused. The whole output is made before the first byte is pushed.
 #[tactic(auto, using(crate::proofs::Joining::ran))]
 pub fn run<F: Files, K: Sink>(alloc: Global, words: &[&str], files: &mut F, sink: &mut K) -> Answer
-    ensures { Runs (asked (map (λ w. w.now) words.now)) result.status (F.shelf files.old) (F.shelf files.new) (K.taken sink.old) (K.taken sink.new) }
+    ensures { Runs (asked (map (λ w. w.now) words.now)) result.proof result.status (F.shelf files.old) (F.shelf files.new) (K.taken sink.old) (K.taken sink.new) }
 {
-    let outcome = answer_of(alloc, words, files);
+    let Reply { outcome, proof } = answer_of(alloc, words, files);
     let status = finish(sink, &outcome);
-    Answer { status }
+    Answer { status, proof }
 }
 
 /// Does what the words of a command line ask for, but for checks: `proof CNF LOG` checks the log in LOG
@@ -97,6 +99,12 @@ pub fn run<F: Files, K: Sink>(alloc: Global, words: &[&str], files: &mut F, sink
 /// clauses and the lines before it and the last one is empty, so that the formula has no solution;
 /// `valid N` where they follow and it is not; both are Done. It prints `badline N` with Broken where line
 /// N, counted from 1, is the first that does not follow.
+///
+/// `sat CNF` and `sat CNF --conflicts B` search for values that satisfy the formula in CNF. Done comes
+/// with `s SATISFIABLE` and the line of the values, or with `s UNSATISFIABLE` and the text of a log that
+/// refutes the formula. `s UNKNOWN` comes with Unknown where B lines were learnt without a verdict; where B
+/// is 0 or not given it never comes. With these three the answer has its evidence. A search always ends,
+/// but its time may grow exponentially with the number of variables.
 ///
 /// CNF is a DIMACS CNF text, read through slot 0, and LOG is read through slot 1 where CNF holds a
 /// formula; each has at most 4,194,304 bytes. Refusals in their order: `usage` for every other list of
@@ -110,9 +118,9 @@ pub fn run_plain<F: Files, K: Sink>(
     files: &mut F,
     sink: &mut K,
 ) -> Answer
-    ensures { Runs (plain_request (asked (map (λ w. w.now) words.now))) result.status (F.shelf files.old) (F.shelf files.new) (K.taken sink.old) (K.taken sink.new) }
+    ensures { Runs (plain_request (asked (map (λ w. w.now) words.now))) result.proof result.status (F.shelf files.old) (F.shelf files.new) (K.taken sink.old) (K.taken sink.new) }
 {
-    let outcome = plain_answer_of(alloc, words, files);
+    let Reply { outcome, proof } = plain_answer_of(alloc, words, files);
     let status = finish(sink, &outcome);
-    Answer { status }
+    Answer { status, proof }
 }

@@ -5,17 +5,21 @@
 mod answer;
 mod call;
 mod check;
+mod number;
 mod outcome;
 mod proof_command;
 mod reading;
 mod request;
+mod sat_command;
 mod texts;
 
-pub use answer::{Answer, Status};
+pub use answer::{Answer, Evidence, Status};
 pub use call::{run, run_plain};
 pub use request::{Job, Request, RequestFault, Text, request_of};
 
 #[cfg(test)]
 mod proof_tests;
+#[cfg(test)]
+mod sat_tests;
 #[cfg(test)]
 mod tests;

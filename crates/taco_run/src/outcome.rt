@@ -1,9 +1,9 @@
-ghost use Rattle.std.specs.Prelude.{IfOk};
+ghost use Rattle.std.specs.Prelude.{◌≡◌, None, IfOk};
 ghost use Rattle.taco_run.specs.declared.answer.Status.TheVariants as status;
 ghost use Rattle.taco_run.specs.Steps.{EndsText, IsOrNoMemory, IsOutcome, IsSilent};
 ghost use Rattle.taco_run.specs.Texts.{badtext_line, line};
 
-use crate::answer::Status;
+use crate::answer::{Evidence, Status};
 use crate::texts::{badtext, word_line};
 use derivation::TextFault;
 use no_memory::NoMemory;
@@ -14,6 +14,23 @@ use std::alloc::Global;
 pub struct Outcome {
     pub status: Status,
     pub output: Vec<u8>,
+}
+
+/// What a request comes to, with the evidence of its verdict.
+#[derive(Drop)]
+pub struct Reply {
+    pub outcome: Outcome,
+    pub proof: Option<Evidence>,
+}
+
+/// An outcome without evidence.
+pub(crate) fn plain(outcome: Outcome) -> Reply
+    ensures { result ≡ record { outcome = outcome; proof = None } }
+{
+    Reply {
+        outcome,
+        proof: None,
+    }
 }
 
 /// An outcome without output.

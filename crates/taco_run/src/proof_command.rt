@@ -1,4 +1,4 @@
-ghost use Rattle.std.specs.Prelude.{◌≡◌, ◌^◌, ◌<◌, ◌≤◌, length, Some, IfOk, if◌then◌else◌};
+ghost use Rattle.std.specs.Prelude.{◌≡◌, ◌^◌, ◌<◌, ◌≤◌, length, Some, None, IfOk, if◌then◌else◌};
 ghost use Rattle.taco_io.specs.Shelf.{Stays};
 ghost use Rattle.taco_run.specs.declared.request.Request.TheVariants as request;
 ghost use Rattle.taco_run.specs.ProofCommand.{text_limit, IsFormula, IsLog, IsNoFormula, IsNoLog, TellsLog};
@@ -37,7 +37,11 @@ fn log_of(alloc: Global, text: &[u8], vars: u32) -> Result<Log, TextEnd>
 }
 
 /// Reads a formula through slot 0.
-fn read_formula<F: Files>(alloc: Global, files: &mut F, name: &str) -> Result<Cnf, TextEnd>
+pub(crate) fn read_formula<F: Files>(
+    alloc: Global,
+    files: &mut F,
+    name: &str,
+) -> Result<Cnf, TextEnd>
     ensures fetches { Fetches name.now IsFormula IsNoFormula (F.shelf files.old) (F.shelf files.new) result }
     ensures stays { Stays 0 (F.shelf files.old) (F.shelf files.new) }
 {
@@ -87,7 +91,7 @@ fn judged(alloc: Global, formula: &Cnf, log: &Log) -> Result<Outcome, NoMemory>
 /// whether the last one is empty, so that the formula has no solution. The log is read only where the
 /// other file holds a formula.
 pub(crate) fn check_log<F: Files>(alloc: Global, files: &mut F, cnf: &Text, log: &Text) -> Outcome
-    ensures { IsAnswered (Some (request.Proof cnf.now log.now)) (F.shelf files.old) (F.shelf files.new) result.status result.output.items }
+    ensures { IsAnswered (Some (request.Proof cnf.now log.now)) (F.shelf files.old) (F.shelf files.new) None result.status result.output.items }
 {
     let formula = match read_formula(alloc, files, cnf.as_str()) {
         Ok(formula) => formula,

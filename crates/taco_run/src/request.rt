@@ -1,13 +1,17 @@
-ghost use Rattle.std.specs.Prelude.{◌≡◌, ◌==◌, length, map, string_bytes, IfOk, MatchResult};
+ghost use Rattle.std.specs.Prelude.{◌≡◌, ◌==◌, length, map, string_bytes, Some, IfOk, MatchResult};
 ghost use Rattle.taco_run.specs.declared.request.Request.TheVariants as request;
-ghost use Rattle.taco_run.specs.Asked.{are_check as are_check_lem, are_proof as are_proof_lem, asked, check_of, is_dashed as is_dashed_lem, Requests};
+ghost use Rattle.taco_run.specs.Asked.{are_bounded_sat as are_bounded_sat_lem, are_check as are_check_lem, are_proof as are_proof_lem, are_sat as are_sat_lem, asked, check_of, is_dashed as is_dashed_lem, most_conflicts, number_up_to as number_up_to_lem, Requests, sat_of};
 
+use crate::number::number_up_to;
 use heap_core::{Plan, Scope};
 use no_memory::NoMemory;
 use std::alloc::Global;
 use std::marker::Model;
 use taco_unit::Name;
 use thiserror::Error;
+
+/// The greatest budget of a search.
+const MOST_CONFLICTS: u64 = 1_000_000_000;
 
 /// A word of the command line: contracts see it as the list of its bytes.
 #[derive(Debug, Drop)]
@@ -57,6 +61,9 @@ pub enum Request {
     Check(Job, u64),
     /// Whether the log of the second file follows from the formula of the first.
     Proof(Text, Text),
+    /// Values that satisfy the formula, or a log that refutes it, with a bound on the lines that the
+    /// search learns, or 0.
+    Sat(Text, u64),
 }
 
 /// Why words are no request.
@@ -90,6 +97,20 @@ fn are_proof(command: &str, cnf: &str, log: &str) -> bool
     ensures { result ≡ are_proof_lem command.now cnf.now log.now }
 {
     command == "proof" && !is_dashed(cnf) && !is_dashed(log)
+}
+
+/// Whether the words are those of a search without a budget.
+fn are_sat(command: &str, cnf: &str) -> bool
+    ensures { result ≡ are_sat_lem command.now cnf.now }
+{
+    command == "sat" && !is_dashed(cnf)
+}
+
+/// Whether the words are those of a search with a budget, but for its number.
+fn are_bounded_sat(command: &str, cnf: &str, option: &str) -> bool
+    ensures { result ≡ are_bounded_sat_lem command.now cnf.now option.now }
+{
+    are_sat(command, cnf) && option == "--conflicts"
 }
 
 /// A check of a method, with the usual scope and plan.
@@ -129,6 +150,16 @@ fn make_proof(alloc: Global, cnf: &str, log: &str) -> Result<Request, NoMemory>
     Ok(Request::Proof(cnf, log))
 }
 
+/// A search with a budget.
+fn make_sat(alloc: Global, cnf: &str, budget: u64) -> Result<Request, RequestFault>
+    ensures { Requests (Some (request.Sat cnf.now budget)) result }
+{
+    match Text::new(alloc, cnf) {
+        Ok(cnf) => Ok(Request::Sat(cnf, budget)),
+        Err(NoMemory) => Err(RequestFault::NoMemory),
+    }
+}
+
 /// What six words ask for.
 fn six_words(alloc: Global, words: &[&str]) -> Result<Request, RequestFault>
     requires { length words.now ≡ 6 }
@@ -163,8 +194,47 @@ fn three_words(alloc: Global, words: &[&str]) -> Result<Request, RequestFault>
     }
 }
 
-/// What the words ask for: `check FILE --class C --method M` or `proof CNF LOG`, in this order, where
-/// FILE, CNF and LOG do not begin with a dash. Linear in the words.
+/// What two words ask for.
+fn two_words(alloc: Global, words: &[&str]) -> Result<Request, RequestFault>
+    requires { length words.now ≡ 2 }
+    ensures { Requests (asked (map (λ w. w.now) words.now)) result }
+{
+    let [command, cnf] = words else {
+        return Err(RequestFault::Usage);
+    };
+    if !are_sat(command, cnf) {
+        return Err(RequestFault::Usage);
+    }
+    make_sat(alloc, cnf, 0)
+}
+
+/// A search with the budget that a word writes.
+fn bounded_sat(alloc: Global, cnf: &str, number: &str) -> Result<Request, RequestFault>
+    ensures { Requests (sat_of cnf.now (number_up_to_lem most_conflicts number.now)) result }
+{
+    match number_up_to(number, MOST_CONFLICTS) {
+        Some(budget) => make_sat(alloc, cnf, budget),
+        None => Err(RequestFault::Usage),
+    }
+}
+
+/// What four words ask for.
+fn four_words(alloc: Global, words: &[&str]) -> Result<Request, RequestFault>
+    requires { length words.now ≡ 4 }
+    ensures { Requests (asked (map (λ w. w.now) words.now)) result }
+{
+    let [command, cnf, option, number] = words else {
+        return Err(RequestFault::Usage);
+    };
+    if !are_bounded_sat(command, cnf, option) {
+        return Err(RequestFault::Usage);
+    }
+    bounded_sat(alloc, cnf, number)
+}
+
+/// What the words ask for: `check FILE --class C --method M`, `proof CNF LOG`, `sat CNF` or
+/// `sat CNF --conflicts B`, in this order, where FILE, CNF and LOG do not begin with a dash and B is a
+/// number from 0 to 1,000,000,000 without leading zeros. Linear in the words.
 #[tactic(auto, using(crate::proofs::Words::asked_of_other))]
 pub fn request_of(alloc: Global, words: &[&str]) -> Result<Request, RequestFault>
     ensures { Requests (asked (map (λ w. w.now) words.now)) result }
@@ -174,6 +244,12 @@ pub fn request_of(alloc: Global, words: &[&str]) -> Result<Request, RequestFault
     }
     if words.len() == 3 {
         return three_words(alloc, words);
+    }
+    if words.len() == 2 {
+        return two_words(alloc, words);
+    }
+    if words.len() == 4 {
+        return four_words(alloc, words);
     }
     Err(RequestFault::Usage)
 }

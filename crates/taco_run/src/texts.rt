@@ -1,7 +1,9 @@
 ghost use Rattle.std.specs.Prelude.{◌≡◌, ℕ, ◌++◌, List, ◌∷◌, [], length, flat_map, zip, string_bytes, decimal, codes, IfOk, OnOk};
+ghost use Rattle.std.specs.List.{enumerate_from};
 ghost use Rattle.std.specs.Fmt.{signed_decimal};
-ghost use Rattle.taco_run.specs.Texts.{argument_line, badline_line, badtext_line, broken_line, class_text, counts_line, holds_report, line, no_tuples, object_text, objects_line, params_of, part_text, place_text, plain_state, refuted_line, scope_line, state_text, this_line, valid_line, value_text, violated_report};
+ghost use Rattle.taco_run.specs.Texts.{argument_line, badline_line, badtext_line, broken_line, class_text, counts_line, holds_report, line, literal_word, no_tuples, object_text, objects_line, params_of, part_text, place_text, plain_state, refuted_line, satisfiable_text, scope_line, state_text, this_line, unsatisfiable_text, valid_line, value_text, violated_report};
 
+use derivation::{Log, log_text};
 use heap_core::{Part, Problem, Scope, Start, Value};
 use no_memory::NoMemory;
 use std::alloc::Global;
@@ -299,4 +301,46 @@ pub(crate) fn badline(alloc: Global, n: u32) -> Result<Vec<u8>, NoMemory>
 {
     let text = format!(in alloc; "badline {n}\n")?;
     Ok(text.into_bytes())
+}
+
+/// Adds a variable as a literal that is true under its value, behind a space.
+fn add_literal(alloc: Global, out: &mut Vec<u8>, var: u64, value: bool) -> Result<(), NoMemory>
+    ensures { OnOk result (out.new.items ≡ out.old.items ++ literal_word (var, value)) }
+{
+    if value {
+        add(out, b" ")?;
+    } else {
+        add(out, b" -")?;
+    }
+    add_number(alloc, out, var)
+}
+
+/// Adds the literals of values, of which the first is that of variable 1.
+fn add_literals(alloc: Global, out: &mut Vec<u8>, values: &[bool]) -> Result<(), NoMemory>
+    ensures { OnOk result (out.new.items ≡ out.old.items ++ flat_map literal_word (enumerate_from 1 values.now)) }
+{
+    for i in 0..values.len() {
+        add_literal(alloc, out, (i + 1) as u64, values[i])?;
+    }
+    Ok(())
+}
+
+/// The text of values that satisfy a formula, of which the first is that of variable 1.
+pub(crate) fn satisfiable(alloc: Global, values: &[bool]) -> Result<Vec<u8>, NoMemory>
+    ensures { IfOk result (λ text. text.items ≡ satisfiable_text values.now) }
+{
+    let mut out = Vec::from_slice(alloc, b"s SATISFIABLE\nv")?;
+    add_literals(alloc, &mut out, values)?;
+    add(&mut out, b" 0\n")?;
+    Ok(out)
+}
+
+/// The text of a log that refutes its formula.
+pub(crate) fn unsatisfiable(alloc: Global, log: &Log) -> Result<Vec<u8>, NoMemory>
+    ensures { IfOk result (λ text. text.items ≡ unsatisfiable_text log.now) }
+{
+    let mut out = Vec::from_slice(alloc, b"s UNSATISFIABLE\n")?;
+    let lines = log_text(alloc, log)?;
+    add(&mut out, lines.as_slice())?;
+    Ok(out)
 }

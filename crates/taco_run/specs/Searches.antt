@@ -1,0 +1,29 @@
+-- What a search through a formula comes to.
+use Rattle.std.specs.Prelude.{◌≡◌, ℕ, List, [], Some, codes}
+use Rattle.cnf_core.specs.Clauses.{Clauses}
+use Rattle.derivation.specs.Step.{Step}
+use Rattle.sat_solver.specs.Answers.{IsKept}
+use Rattle.sat_solver.specs.declared.answer.SatAnswer.{SatAnswer}
+use Rattle.sat_solver.specs.declared.answer.SatAnswer.TheVariants.{Satisfied, Refuted, Spent}
+use Rattle.taco_run.specs.declared.answer.Evidence.{Evidence}
+use Rattle.taco_run.specs.declared.answer.Status.TheVariants as status
+use Rattle.taco_run.specs.declared.outcome.Outcome.{Outcome}
+use Rattle.taco_run.specs.declared.outcome.Reply.{Reply}
+use Rattle.taco_run.specs.SatCommand.{TellsSearch}
+use Rattle.taco_run.specs.Steps.{IsOutcome}
+use Rattle.taco_run.specs.Texts.{line, satisfiable_text, unsatisfiable_text}
+
+-- the outcome that an answer of the solver comes to
+abbrev pub TellsAnswer : SatAnswer → List Step → Outcome → Type 0
+TellsAnswer (Satisfied values) log o = IsOutcome status.Done (satisfiable_text values.items) o
+TellsAnswer Refuted log o = IsOutcome status.Done (unsatisfiable_text log) o
+TellsAnswer Spent log o = IsOutcome status.Unknown (line (codes "s UNKNOWN")) o
+
+-- The reply is the verdict of a search through this formula, and has its evidence.
+pub record IsVerdict (formula : Clauses) (budget : ℕ) (reply : Reply) : Type 0 where
+  pub evidence : Evidence
+  pub there : reply.proof ≡ Some evidence
+  pub same : evidence.cnf ≡ formula
+  pub kept : IsKept evidence.cnf evidence.log budget
+  pub no_tuples : evidence.tuple_vars.items ≡ []
+  pub verdict : TellsSearch evidence.cnf evidence.log budget reply.outcome.status reply.outcome.output.items
