@@ -1,4 +1,4 @@
-use Rattle.std.specs.Prelude.{ℕ, Bool, not, true, List, [], ◌∷◌, ◌≡◌, ◌+◌, ◌-◌, ◌<◌, ◌≤◌, ◌↔◌, length, slice_index, slice_index_or, false, ⊤}
+use Rattle.std.specs.Prelude.{ℕ, Bool, not, true, List, [], ◌∷◌, ◌≡◌, ◌+◌, ◌-◌, ◌<◌, ◌≤◌, ◌↔◌, filter, ◌++◌, length, slice_index, slice_index_or, false, ⊤}
 use Rattle.sat_order.specs.Ring.{Held}
 use Rattle.sat_order.specs.Lists.{holds, EachOnce, before}
 
@@ -10,6 +10,10 @@ pub record Order : Type 0 where
 -- the variables before the cursor
 abbrev pub passed : Order → List ℕ
 passed q = before q.cursor q.vars
+
+-- these variables in front of the others, both in the order in which they stand
+abbrev pub moved_up : List ℕ → List ℕ → List ℕ
+moved_up vs xs = filter (holds vs) xs ++ filter (λ x. not (holds vs x)) xs
 
 -- each variable from 1 to their number stands there, and stands there once
 pub record IsOrder (vars : List ℕ) : Type 0 where

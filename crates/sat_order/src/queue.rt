@@ -1,7 +1,7 @@
-ghost use Rattle.std.specs.Prelude.{◌≡◌, ℕ, ◌+◌, ◌<◌, ◌≤◌, ◌==◌, ◌↔◌, List, [], ◌∷◌, true, false, length, ◌^◌, find, unwrap_or, IfOk, IsNone, IsTrue, All, if◌then◌else◌};
+ghost use Rattle.std.specs.Prelude.{◌≡◌, ℕ, ◌+◌, ◌<◌, ◌≤◌, ◌==◌, ◌||◌, ◌↔◌, List, [], ◌∷◌, true, false, length, ◌^◌, map, filter, find, unwrap_or, IfOk, OnOk, OnErr, IsNone, IsTrue, All, if◌then◌else◌};
 ghost use Rattle.std.specs.List.{range_with_len};
 ghost use Rattle.sat_order.specs.Lists.{holds, EachOnce, first_of, after, from, without};
-ghost use Rattle.sat_order.specs.Order.{passed, IsOrder, is_free, Falls};
+ghost use Rattle.sat_order.specs.Order.{passed, moved_up, IsOrder, is_free, Falls};
 
 use crate::ring::Ring;
 use no_memory::NoMemory;
@@ -20,6 +20,13 @@ pub struct Queue {
     stamps: Vec<u64>,
     /// The greatest stamp so far.
     newest: u64,
+}
+
+/// A variable, and how far its stamp is below the newest one.
+#[derive(Drop)]
+struct Aged {
+    var: u32,
+    age: u64,
 }
 
 impl Model for Queue {
@@ -68,6 +75,42 @@ impl Queue {
         self.ring.push_front(var);
         self.newest = newest + 1;
         self.stamps[var as usize] = newest + 1;
+    }
+
+    /// Moves these variables to the front, and keeps the order in which they stand, as it keeps that of
+    /// the rest. Where one has no value, call `freed` next. Without memory the queue stays as it is.
+    /// The cost is that of sorting them.
+    pub fn bump_all(&mut self, alloc: Global, vars: &[u32]) -> Result<(), NoMemory>
+        requires from_one { All (λ var. 0 < var) vars.now }
+        requires within { All (λ var. var ≤ length self.old.vars) vars.now }
+        requires once { EachOnce vars.now }
+        ensures vars { OnOk result (self.new.vars ≡ moved_up vars.now self.old.vars) }
+        ensures passed { OnOk result ((v : ℕ) → holds (passed self.new) v ≡ true → (holds vars.now v || holds (passed self.old) v) ≡ true) }
+        ensures each { OnOk result (IsOrder self.new.vars) }
+        ensures unchanged { OnErr result (self.new ≡ self.old) }
+    {
+        let aged = self.by_age(alloc, vars)?;
+        for next in aged.iter().rev() {
+            self.bump(next.var);
+        }
+        Ok(())
+    }
+
+    /// These variables in the order in which they stand.
+    fn by_age(&self, alloc: Global, vars: &[u32]) -> Result<Vec<Aged>, NoMemory>
+        requires from_one { All (λ var. 0 < var) vars.now }
+        requires within { All (λ var. var ≤ length self.now.vars) vars.now }
+        requires once { EachOnce vars.now }
+        ensures vars { IfOk result (λ aged. map (λ a. a.var) aged.items ≡ filter (holds vars.now) self.now.vars) }
+        ensures each { OnOk result (IsOrder self.now.vars) }
+    {
+        let mut aged = Vec::new(alloc);
+        for var in vars {
+            let age = self.newest - self.stamps[*var as usize];
+            aged.push(Aged { var: *var, age })?;
+        }
+        aged.sort_by_key(|one| one.age)?;
+        Ok(aged)
     }
 
     /// The first variable that has no value, from the front on. `set` tells which have one: the

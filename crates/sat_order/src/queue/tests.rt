@@ -53,3 +53,22 @@ fn no_variable_at_all(rt: HostRuntime) -> Result<(), Fail> {
     assert_eq!(rt; queue.next_from_cursor(&[]), None);
     Ok(())
 }
+
+// 5, 1 and 4 stand as 1, 4, 5 in the queue, and so they do in front of 2 and 3.
+#[test]
+fn many_keep_their_order(rt: HostRuntime) -> Result<(), Fail> {
+    let mut queue = Queue::new(rt.alloc(), 5)?;
+    queue.bump_all(rt.alloc(), &[5, 1, 4])?;
+    assert_eq!(rt; queue.next_free(&[false; 5]), Some(1));
+    assert_eq!(rt;
+        queue.next_free(&[true, false, false, false, false]),
+        Some(4)
+    );
+    assert_eq!(rt;
+        queue.next_free(&[true, false, false, true, false]),
+        Some(5)
+    );
+    assert_eq!(rt; queue.next_free(&[true, false, false, true, true]), Some(2));
+    assert_eq!(rt; queue.next_free(&[true, true, false, true, true]), Some(3));
+    Ok(())
+}
