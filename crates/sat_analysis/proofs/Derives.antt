@@ -1,5 +1,5 @@
 -- Hints are gathered backwards: from the conflict over the reasons to the clause that is learnt.
-use Rattle.std.proofs.Common.{◌≡◌, ◌≢◌, ℕ, true, false, ◌||◌, List, [], ◌∷◌, ◌++◌, map, refl, sym, ap, ◌∙◌, subst, inl, inr, arith}
+use Rattle.std.proofs.Common.{◌≡◌, ◌≢◌, ℕ, true, false, ◌||◌, List, [], ◌∷◌, ◌++◌, refl, sym, ap, ◌∙◌, inl, inr, arith}
 use Rattle.std.proofs.lemmas.Bool.{or_left, or_right, or_cases, false_from_ne_true}
 use Rattle.cnf_core.specs.Literal.{negated}
 use Rattle.derivation.specs.Propagation.{ends, effect_of, hinted, is_hint}
@@ -9,7 +9,6 @@ use Rattle.sat_watch.specs.Propagation.{IsFalse, Forces as ForcesLit}
 use Rattle.sat_watch.proofs.LiteralLemmas.{equal, negated-negated, is_true-append}
 use Rattle.sat_analysis.specs.Reasons.{IsNumberOf, Derives}
 use Rattle.sat_analysis.proofs.Bridge.{effect_false, effect_forces}
-use Rattle.sat_analysis.proofs.Lits.{negated_has, AreFalse}
 
 -- the step of a conflict, and of a reason
 pub ends_there : (known : List (List ℕ)) (number : ℕ) (trues : List ℕ) → is_hint known number ≡ true → effect_of trues (hinted known number) ≡ Conflicts → ends known (number ∷ []) trues ≡ true
@@ -57,11 +56,3 @@ derives_skip known lit hints marks front n d part w p =
           let off : has marks x ≡ false = ap (has marks) (sym (negated-negated x) ∙ ap negated (sym e)) ∙ n in
           let both : true ≡ false = sym marked ∙ off in cc)
     ])
-
--- a clause all of whose literals are false, and which has all marked literals that are
-pub derives_clause : (known : List (List ℕ)) (clause hints marks trues : List ℕ) → AreFalse trues clause → ((lit : ℕ) → has marks lit ≡ true → is_true trues (negated lit) ≡ true → has clause lit ≡ true)
-    → Derives known marks hints trues → ends known hints (map negated clause) ≡ true
-derives_clause known clause hints marks trues f m d =
-    d (map negated clause)
-    (λ x h. subst (λ y. is_true trues y ≡ true) (negated-negated x) (f (negated x) (sym (negated_has clause x) ∙ h)))
-    (λ x marked h. negated_has clause (negated x) ∙ ap (has clause) (negated-negated x) ∙ m x marked h)

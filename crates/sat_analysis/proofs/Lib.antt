@@ -7,3 +7,4 @@ pub mod Lits
 pub mod Marking
 pub mod Order
 pub mod Steps
+pub mod Settling

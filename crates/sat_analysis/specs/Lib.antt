@@ -2,4 +2,5 @@ pub mod Learnt
 pub mod Marked
 pub mod Noted
 pub mod Reasons
+pub mod Settled
 pub mod Walk

@@ -1,4 +1,4 @@
-ghost use Rattle.std.specs.Prelude.{◌≡◌, ℕ, ◌+◌, ◌/◌, ◌<◌, ◌≤◌, nat_lt, List, [], ◌∷◌, All, length, reverse, filter, slice_index, IfOk};
+ghost use Rattle.std.specs.Prelude.{◌≡◌, ℕ, ◌+◌, ◌/◌, ◌<◌, ◌≤◌, ◌++◌, List, [], ◌∷◌, All, length, reverse, slice_index, IfOk};
 ghost use Rattle.std.specs.List.Sorted.{IsPermutation, IsSorted};
 ghost use Rattle.std.specs.Ordering.{nat_cmp};
 
@@ -7,27 +7,6 @@ use derivation::Line;
 use no_memory::NoMemory;
 use smallvec::SmallVec;
 use std::alloc::Global;
-
-/// A literal, and behind it those of the marked ones that are of lower levels.
-pub(crate) fn gather(
-    alloc: Global,
-    marked: &[Lit],
-    levels: &[u32],
-    level: u32,
-    first: Lit,
-) -> Result<Vec<Lit>, NoMemory>
-    requires { All (λ lit. lit / 2 < length levels.now) marked.now }
-    ensures { IfOk result (λ lits. lits.items ≡ first ∷ filter (λ lit. nat_lt (slice_index levels.now (lit / 2)) level) marked.now) }
-{
-    let mut lits = Vec::new(alloc);
-    lits.push(first)?;
-    for lit in marked {
-        if levels[lit.var() as usize] < level {
-            lits.push(*lit)?;
-        }
-    }
-    Ok(lits)
-}
 
 /// Where behind the first literal one of the highest level stands.
 fn highest(lits: &[Lit], levels: &[u32]) -> usize
@@ -68,16 +47,24 @@ pub(crate) fn raise_highest(lits: &mut Vec<Lit>, levels: &[u32]) -> u32
     levels[raised.var() as usize]
 }
 
-/// A line of a log: the literals in their order, and the hints from the last one to the first.
-pub(crate) fn line_of(alloc: Global, lits: &[Lit], hints: &[u32]) -> Result<Line, NoMemory>
+/// A line of a log: the literals in their order, and the hints, first those of what is implied and
+/// then the others from the last one to the first.
+pub(crate) fn line_of(
+    alloc: Global,
+    lits: &[Lit],
+    implied: &[u32],
+    hints: &[u32],
+) -> Result<Line, NoMemory>
     ensures clause { IfOk result (λ line. IsPermutation lits.now line.clause) }
     ensures sorted { IfOk result (λ line. IsSorted nat_cmp line.clause) }
-    ensures hints { IfOk result (λ line. line.hints ≡ reverse hints.now) }
+    ensures hints { IfOk result (λ line. line.hints ≡ implied.now ++ reverse hints.now) }
 {
     let mut sorted = Vec::from_slice(alloc, lits)?;
     sorted.sort()?;
     let backwards: Vec<u32> = hints.iter().rev().copied().collect(alloc)?;
+    let mut order = Vec::from_slice(alloc, implied)?;
+    order.extend_from_slice(backwards.as_slice())?;
     let clause = SmallVec::from_slice(alloc, sorted.as_slice())?;
-    let hints = SmallVec::from_slice(alloc, backwards.as_slice())?;
+    let hints = SmallVec::from_slice(alloc, order.as_slice())?;
     Ok(Line { clause, hints })
 }

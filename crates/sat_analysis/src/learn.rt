@@ -5,13 +5,15 @@ ghost use Rattle.sat_watch.specs.Literals.{has, EachOnce};
 ghost use Rattle.sat_watch.specs.Propagation.{IsFalse};
 ghost use Rattle.sat_watch.specs.Trail.{literals, up_to, IsSound};
 ghost use Rattle.sat_watch.specs.declared.trail.Entry.{Entry};
-ghost use Rattle.sat_analysis.specs.Learnt.{IsLearnt};
+ghost use Rattle.sat_analysis.specs.Learnt.{IsLearnt, level_of};
+ghost use Rattle.sat_analysis.specs.Settled.{HasRoom, IsSettled, Implies, Covers};
 ghost use Rattle.sat_analysis.specs.Walk.{AreLeveled, IsAt};
 ghost use Rattle.sat_analysis.specs.Noted.{IsNoted};
 ghost use Rattle.sat_analysis.specs.Reasons.{IsNumberOf};
 
-use crate::gather::{gather, line_of, raise_highest};
+use crate::gather::{line_of, raise_highest};
 use crate::marks::Marks;
+use crate::minimise::Minimiser;
 use crate::notes::Notes;
 use crate::walk::{go_back, last_marked, start};
 use cnf_core::Lit;
@@ -34,9 +36,11 @@ pub struct Learnt {
 impl Learnt {
     /// Learns from a clause of the watches that is false at a level above 0: goes back over the trail
     /// to the first literal of the present level by which alone the conflict follows, and takes its
-    /// negation and those of lower levels. What it visited stays marked. The cost is what of the trail and of the reasons it visits.
+    /// negation and those of lower levels that the others do not imply. What it visited on the trail
+    /// stays marked. The cost is what of the trail and of the reasons it visits.
     pub fn of(
         alloc: Global,
+        minimiser: &mut Minimiser,
         marks: &mut Marks,
         watches: &Watches,
         trail: &Trail,
@@ -45,19 +49,22 @@ impl Learnt {
     ) -> Result<Learnt, NoMemory>
         ghost known: { List (List ℕ) }
         requires noted { IsNoted known watches.now trail.now notes.now }
+        requires room { HasRoom trail.now.vars minimiser.old }
         requires unmarked { marks.old ≡ record { places = 2 * (trail.now.vars + 1); lits = [] } }
         requires above { 0 < trail.now.level }
         requires clause { clause < length watches.now.clauses }
         requires conflict { IsFalse (literals trail.now.entries) (slice_index_or watches.now.clauses clause []) }
         requires late { ¬ IsFalse (literals (up_to (trail.now.level - 1) trail.now.entries)) (slice_index_or watches.now.clauses clause []) }
         ensures learnt { IfOk result (λ learnt. IsLearnt known trail.now notes.now.levels.items learnt.line learnt.lits.items learnt.level) }
+        ensures room { OnOk result (HasRoom trail.now.vars minimiser.new) }
         ensures places { OnOk result (marks.new.places ≡ marks.old.places) }
         ensures marked { OnOk result (IsFalse (literals trail.now.entries) marks.new.lits) }
         ensures sound { OnOk result (IsSound trail.now) }
     {
         let mut hints = Vec::new(alloc);
         let place = first_point(marks, watches, trail, notes, clause, &mut hints)?;
-        let learnt = conclude(alloc, marks, trail, notes, place, &hints)?;
+        minimiser.minimise(marks, watches, trail, notes)?;
+        let learnt = conclude(alloc, minimiser, marks, trail, notes, place, &hints)?;
         Ok(learnt)
     }
 }
@@ -94,9 +101,11 @@ fn first_point(
     Ok(last_marked(marks, trail, left))
 }
 
-/// What is learnt where only the negation of the entry at this place is marked of the present level.
+/// What is learnt where only the negation of the entry at this place is marked of the present level,
+/// and all that is marked of lower levels is settled.
 fn conclude(
     alloc: Global,
+    minimiser: &Minimiser,
     marks: &Marks,
     trail: &Trail,
     notes: &Notes,
@@ -110,12 +119,16 @@ fn conclude(
     requires within { place < length trail.now.entries }
     requires marked { (d : Entry) → has marks.now.lits (negated (slice_index_or trail.now.entries place d).lit) ≡ true }
     requires at { IsAt known trail.now.entries marks.now.lits hints.now trail.now.level 1 (place + 1) }
+    requires settled { IsSettled trail.now notes.now.levels.items minimiser.now }
+    requires implies { Implies known (literals trail.now.entries) minimiser.now }
+    requires covers { (lit : ℕ) → has marks.now.lits lit ≡ true → level_of notes.now.levels.items lit < trail.now.level → Covers minimiser.now lit }
     ensures { IfOk result (λ learnt. IsLearnt known trail.now notes.now.levels.items learnt.line learnt.lits.items learnt.level) }
 {
-    let first = trail.entries()[place].lit.negated();
-    let mut lits = gather(alloc, marks.lits(), &notes.levels, trail.level(), first)?;
+    let mut lits = Vec::new(alloc);
+    lits.push(trail.entries()[place].lit.negated())?;
+    lits.extend_from_slice(minimiser.kept.lits())?;
     let level = raise_highest(&mut lits, &notes.levels);
-    let line = line_of(alloc, &lits, hints)?;
+    let line = line_of(alloc, &lits, &minimiser.hints, hints)?;
     Ok(Learnt { line, lits, level })
 }
 
@@ -144,6 +157,6 @@ pub fn refute(
     let mut hints = Vec::new(alloc);
     let pending = start(marks, trail, notes, clause, number, &mut hints)?;
     let _left = go_back(marks, watches, trail, notes, &mut hints, left, pending, 0)?;
-    let line = line_of(alloc, &[], &hints)?;
+    let line = line_of(alloc, &[], &[], &hints)?;
     Ok(line)
 }

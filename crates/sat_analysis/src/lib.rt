@@ -4,9 +4,11 @@
 mod gather;
 mod learn;
 mod marks;
+mod minimise;
 mod notes;
 mod walk;
 
 pub use learn::{Learnt, refute};
 pub use marks::Marks;
+pub use minimise::Minimiser;
 pub use notes::Notes;

@@ -86,6 +86,7 @@ impl Queue {
         requires once { EachOnce vars.now }
         ensures vars { OnOk result (self.new.vars ≡ moved_up vars.now self.old.vars) }
         ensures passed { OnOk result ((v : ℕ) → holds (passed self.new) v ≡ true → (holds vars.now v || holds (passed self.old) v) ≡ true) }
+        ensures count { OnOk result (length self.new.vars ≡ length self.old.vars) }
         ensures each { OnOk result (IsOrder self.new.vars) }
         ensures unchanged { OnErr result (self.new ≡ self.old) }
     {

@@ -8,6 +8,7 @@ use Rattle.sat_order.proofs.ListLemmas.{before_first}
 use Rattle.sat_watch.specs.Trail.{TrailState}
 use Rattle.sat_watch.specs.Watching.{WatchState, IsPending, Right}
 use Rattle.sat_analysis.specs.declared.notes.Notes.{Notes}
+use Rattle.sat_analysis.specs.Settled.{HasRoom}
 use Rattle.sat_solver.specs.Loading.{IsLoading}
 use Rattle.sat_solver.specs.Search.{known_by, IsRunning}
 use Rattle.sat_solver.specs.Steps.{unmarked}
@@ -45,8 +46,8 @@ running_new known w vars notes wv wc right numbers units levels = record {
 
 pub loading_new : (s : Search) → s.cnf.vars < 2 ^ 31 → s.log ≡ [] → s.watches.vars ≡ s.cnf.vars → s.watches.clauses ≡ [] → ((t : TrailState) → IsPending t → Right s.watches t)
     → s.trail ≡ record { vars = s.cnf.vars; entries = []; level = 0; passed = 0 } → s.notes.numbers.items ≡ [] → length s.notes.units.items ≡ s.cnf.vars + 1 → length s.notes.levels.items ≡ s.cnf.vars + 1
-    → s.marks ≡ unmarked s.cnf.vars → IsOrder s.queue.vars → length s.queue.vars ≡ s.cnf.vars → s.queue.cursor ≡ first_of s.queue.vars → s.set.items ≡ replicate s.cnf.vars false → length s.phases.items ≡ s.cnf.vars → IsLoading 0 s
-loading_new s small log wv wc right trail numbers units levels marks order all cursor set phases =
+    → s.marks ≡ unmarked s.cnf.vars → HasRoom s.cnf.vars s.minimiser → IsOrder s.queue.vars → length s.queue.vars ≡ s.cnf.vars → s.queue.cursor ≡ first_of s.queue.vars → s.set.items ≡ replicate s.cnf.vars false → length s.phases.items ≡ s.cnf.vars → IsLoading 0 s
+loading_new s small log wv wc right trail numbers units levels marks minimiser order all cursor set phases =
     record {
       built = record {
         small = small;
@@ -62,6 +63,7 @@ loading_new s small log wv wc right trail numbers units levels marks order all c
         };
         phases = phases;
         marks = marks;
+        minimiser = minimiser;
       };
       over = λ k d l. absurd (omega arith);
       log = log;

@@ -1,10 +1,12 @@
 -- The tables that follow the trail.
-use Rattle.std.proofs.Common.{◌≡◌, ◌≢◌, ℕ, ◌+◌, ◌-◌, ◌/◌, ◌<◌, ◌≤◌, Bool, true, false, eqb, not, List, [], ◌∷◌, ◌++◌, length, take, get_or, set, refl, sym, ap, ◌∙◌, subst, inl, inr, arith, All, get_or-set_other}
+use Rattle.std.proofs.Common.{◌≡◌, ◌≢◌, ℕ, ◌+◌, ◌-◌, ◌/◌, ◌<◌, ◌≤◌, Bool, true, false, eqb, not, ◌&&◌, ◌||◌, List, [], ◌∷◌, ◌++◌, length, map, take, get_or, set, refl, sym, ap, ◌∙◌, subst, inl, inr, arith, All, get_or-set_other}
 use Rattle.std.proofs.lemmas.Bool.{or_cases, false≢true}
 use Rattle.std.proofs.lemmas.List.{get_or-map, map-append, length-map}
+use Rattle.std.specs.List.{list_any}
+use Rattle.std.proofs.lemmas.List.Elements.{All-map, All-head, All-tail}
 use Rattle.cnf_core.specs.Literal.{IsOver}
-use Rattle.sat_order.specs.Lists.{holds, before, without}
-use Rattle.sat_order.proofs.ListLemmas.{holds-without}
+use Rattle.derivation.specs.Propagation.{once}
+use Rattle.sat_order.specs.Lists.{holds, before, EachOnce}
 use Rattle.sat_order.specs.Order.{Order, passed, IsOrder, is_free}
 use Rattle.sat_watch.specs.declared.trail.Entry.{Entry}
 use Rattle.sat_watch.specs.Literals.{IsOpen, AreApart}
@@ -66,14 +68,47 @@ freed_more old new values var o z all moved v h =
     let apart : v - 1 ≢ var - 1 = λ q. unequal v var p.1 (omega (arith, q, positive, z)) in
     ap not (get_or-set_other values (var - 1) (v - 1) false false apart) ∙ all v p.0
 
--- a variable with a value comes to the front
-pub queued_bumped : (vars : ℕ) (old new : Order) (values : List Bool) (var : ℕ) → IsQueued vars old values → is_free values var ≡ false → passed new ≡ var ∷ without var (passed old) → length new.vars ≡ length old.vars → IsOrder new.vars
-    → IsQueued vars new values
-queued_bumped vars old new values var q f p count each = record {
+-- VARIABLES OF LITERALS
+
+abbrev pub variables : List ℕ → List ℕ
+variables lits = map (λ lit. lit / 2) lits
+
+pub variables_from_one : (vars : ℕ) (lits : List ℕ) → All (IsOver vars) lits → All (λ var. 0 < var) (variables lits)
+variables_from_one vars lits over = All-map (λ var. 0 < var) (λ lit. lit / 2) lits (λ k d lt. (over k d lt).0)
+
+pub variables_within : (vars most : ℕ) (lits : List ℕ) → All (IsOver vars) lits → vars ≡ most → All (λ var. var ≤ most) (variables lits)
+variables_within vars most lits over same = All-map (λ var. var ≤ most) (λ lit. lit / 2) lits (λ k d lt. omega (arith, (over k d lt).1, same))
+
+absent : (x : ℕ) (lits : List ℕ) → list_any (λ other. eqb (other / 2) x) lits ≡ false → holds (variables lits) x ≡ false
+absent x [] h = refl
+absent x (y ∷ ys) h = grind (arith, h, absent x ys)
+
+pub variables_once : (lits : List ℕ) → once lits ≡ true → EachOnce (variables lits)
+variables_once [] h = tt
+variables_once (x ∷ xs) h =
+    let both : ((list_any (λ other. eqb (other / 2) (x / 2)) xs) ≡ false) × (once xs ≡ true) = split (list_any (λ other. eqb (other / 2) (x / 2)) xs) (once xs) h in
+    (absent (x / 2) xs both.0, variables_once xs both.1)
+  where
+    split : (a b : Bool) → (not a && b) ≡ true → (a ≡ false) × (b ≡ true)
+    split true b h = absurd (let both : false ≡ true = h in cc)
+    split false b h = (refl, h)
+
+-- a variable of literals whose variables have values has one
+values_there : (set : List Bool) (lits : List ℕ) (v : ℕ) → All (λ lit. is_free set (lit / 2) ≡ false) lits → holds (variables lits) v ≡ true → is_free set v ≡ false
+values_there set [] v all h = absurd (let both : false ≡ true = h in cc)
+values_there set (x ∷ xs) v all h = elim (tested (eqb (x / 2) v)) [
+  | inl same ↦ subst (λ w. is_free set w ≡ false) (equal (x / 2) v same) (All-head (λ lit. is_free set (lit / 2) ≡ false) x xs all)
+  | inr other ↦ values_there set xs v (All-tail (λ lit. is_free set (lit / 2) ≡ false) x xs all) (grind (arith, h, other))
+]
+
+-- variables with values come to the front
+pub queued_bumped : (vars : ℕ) (old new : Order) (values : List Bool) (lits moved : List ℕ) → IsQueued vars old values → All (λ lit. is_free values (lit / 2) ≡ false) lits → moved ≡ variables lits
+    → ((v : ℕ) → holds (passed new) v ≡ true → (holds moved v || holds (passed old) v) ≡ true) → length new.vars ≡ length old.vars → IsOrder new.vars → IsQueued vars new values
+queued_bumped vars old new values lits moved q f is more count each = record {
   order = each;
   all = count ∙ q.all;
-  passed = λ v h. elim (or_cases (eqb var v) (holds (without var (passed old)) v) (ap (λ xs. holds xs v) (sym p) ∙ h)) [
-    | inl here ↦ ap (is_free values) (sym (equal var v here)) ∙ f
-    | inr there ↦ q.passed v (holds-without (passed old) var v there)
+  passed = λ v h. elim (or_cases (holds moved v) (holds (passed old) v) (more v h)) [
+    | inl here ↦ values_there values lits v f (ap (λ l. holds l v) (sym is) ∙ here)
+    | inr there ↦ q.passed v there
   ];
 }

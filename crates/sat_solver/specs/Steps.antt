@@ -10,6 +10,7 @@ use Rattle.sat_watch.specs.Propagation.{IsQuiet}
 use Rattle.sat_watch.specs.Trail.{TrailState, literals, up_to}
 use Rattle.sat_analysis.specs.Learnt.{level_of}
 use Rattle.sat_analysis.specs.Marked.{Marked}
+use Rattle.sat_analysis.specs.Settled.{HasRoom}
 use Rattle.sat_solver.specs.Queued.{IsQueued}
 use Rattle.sat_solver.specs.Search.{known_by, IsLogged, IsRunning}
 use Rattle.sat_solver.specs.declared.search.Search.{Search}
@@ -26,6 +27,7 @@ pub record IsBuilt (s : Search) (done : List (List ℕ)) : Type 0 where
   pub queued : IsQueued s.cnf.vars s.queue s.set.items
   pub phases : length s.phases.items ≡ s.cnf.vars
   pub marks : s.marks ≡ unmarked s.cnf.vars
+  pub minimiser : HasRoom s.cnf.vars s.minimiser
 
 -- All known clauses are held, and the log is one of the search.
 pub record IsSearch (s : Search) : Type 0 where

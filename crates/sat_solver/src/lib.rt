@@ -3,6 +3,7 @@
 
 mod answer;
 mod load;
+mod pace;
 mod search;
 mod solver;
 mod tables;

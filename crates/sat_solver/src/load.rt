@@ -8,12 +8,13 @@ ghost use Rattle.sat_analysis.specs.Reasons.{IsNumberOf};
 ghost use Rattle.sat_solver.specs.Loading.{AreOnce};
 ghost use Rattle.sat_solver.specs.Search.{known_by};
 
+use crate::pace::Pace;
 use crate::search::Search;
 use crate::tables::note_entries;
 use cnf_core::{Cnf, Lit};
 use derivation::Log;
 use no_memory::NoMemory;
-use sat_analysis::{Marks, Notes, refute};
+use sat_analysis::{Marks, Minimiser, Notes, refute};
 use sat_order::Queue;
 use sat_watch::{Trail, Watches};
 use std::alloc::Global;
@@ -38,6 +39,7 @@ impl Search {
             levels: vec![in alloc; 0; vars as usize + 1]?,
         };
         let marks = Marks::new(alloc, vars)?;
+        let minimiser = Minimiser::new(alloc, vars)?;
         let queue = Queue::new(alloc, vars)?;
         let set = vec![in alloc; false; vars as usize]?;
         let phases = vec![in alloc; false; vars as usize]?;
@@ -48,9 +50,11 @@ impl Search {
             trail,
             notes,
             marks,
+            minimiser,
             queue,
             set,
             phases,
+            pace: Pace::new(),
         })
     }
 
@@ -149,7 +153,13 @@ impl Search {
         let from = self.trail.entries().len();
         self.notes.units[lits[0].var() as usize] = place + 1;
         self.trail.set(lits[0], None);
-        note_entries(&self.trail, &mut self.notes.levels, &mut self.set, from);
+        note_entries(
+            &self.trail,
+            &mut self.notes.levels,
+            &mut self.set,
+            &mut self.minimiser,
+            from,
+        );
     }
 
     /// Adds the empty line, by a clause of the formula that is false.

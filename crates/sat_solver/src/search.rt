@@ -5,11 +5,12 @@ ghost use Rattle.sat_watch.specs.Literals.{is_true};
 ghost use Rattle.sat_watch.specs.Propagation.{IsFalse, IsQuiet, Grows};
 ghost use Rattle.sat_watch.specs.Trail.{literals, levels, up_to, IsSound};
 
+use crate::pace::Pace;
 use crate::tables::{bump_all, next_number, note_entries, release, values_of};
 use cnf_core::{Cnf, Lit};
 use derivation::{Line, Log};
 use no_memory::NoMemory;
-use sat_analysis::{Learnt, Marks, Notes};
+use sat_analysis::{Learnt, Marks, Minimiser, Notes};
 use sat_order::Queue;
 use sat_watch::{Trail, Watches};
 use std::alloc::Global;
@@ -23,11 +24,13 @@ pub(crate) struct Search {
     pub(crate) trail: Trail,
     pub(crate) notes: Notes,
     pub(crate) marks: Marks,
+    pub(crate) minimiser: Minimiser,
     pub(crate) queue: Queue,
     /// By variable from 1 on, whether it has a value.
     pub(crate) set: Vec<bool>,
     /// By variable from 1 on, the value that it had last.
     pub(crate) phases: Vec<bool>,
+    pub(crate) pace: Pace,
 }
 
 impl Search {
@@ -46,7 +49,13 @@ impl Search {
     {
         let from = self.trail.entries().len();
         let conflict = self.watches.propagate(&mut self.trail);
-        note_entries(&self.trail, &mut self.notes.levels, &mut self.set, from);
+        note_entries(
+            &self.trail,
+            &mut self.notes.levels,
+            &mut self.set,
+            &mut self.minimiser,
+            from,
+        );
         conflict
     }
 
@@ -67,7 +76,13 @@ impl Search {
         let lit = with_phase(var, self.phases[var as usize - 1]);
         let from = self.trail.entries().len();
         self.trail.decide(lit);
-        note_entries(&self.trail, &mut self.notes.levels, &mut self.set, from);
+        note_entries(
+            &self.trail,
+            &mut self.notes.levels,
+            &mut self.set,
+            &mut self.minimiser,
+            from,
+        );
     }
 
     /// Goes back to a level.
@@ -112,7 +127,13 @@ impl Search {
         self.log.push(line)?;
         self.trail.set(lits[0], Some(clause));
         self.watches.watch(clause);
-        note_entries(&self.trail, &mut self.notes.levels, &mut self.set, from);
+        note_entries(
+            &self.trail,
+            &mut self.notes.levels,
+            &mut self.set,
+            &mut self.minimiser,
+            from,
+        );
         Ok(())
     }
 
@@ -130,7 +151,13 @@ impl Search {
         self.log.push(line)?;
         self.notes.units[lits[0].var() as usize] = number;
         self.trail.set(lits[0], None);
-        note_entries(&self.trail, &mut self.notes.levels, &mut self.set, from);
+        note_entries(
+            &self.trail,
+            &mut self.notes.levels,
+            &mut self.set,
+            &mut self.minimiser,
+            from,
+        );
         Ok(())
     }
 
@@ -149,13 +176,14 @@ impl Search {
     {
         let Learnt { line, lits, level } = Learnt::of(
             alloc,
+            &mut self.minimiser,
             &mut self.marks,
             &self.watches,
             &self.trail,
             &self.notes,
             clause,
         )?;
-        bump_all(&mut self.queue, self.marks.lits(), &self.set);
+        bump_all(alloc, &mut self.queue, self.marks.lits(), &self.set)?;
         self.marks.clear();
         let number = next_number(&self.cnf, &self.log)?;
         self.back_to(level);

@@ -1,9 +1,11 @@
-ghost use Rattle.std.specs.Prelude.{◌≡◌, ℕ, ◌+◌, ◌-◌, ◌*◌, ◌/◌, ◌^◌, ◌<◌, ◌≤◌, ◌==◌, true, false, List, [], ◌∷◌, ◌++◌, All, length, take, slice_index_or, IfOk};
+ghost use Rattle.std.specs.Prelude.{◌≡◌, ℕ, ◌+◌, ◌-◌, ◌*◌, ◌/◌, ◌^◌, ◌<◌, ◌≤◌, ◌==◌, true, false, List, [], ◌∷◌, ◌++◌, All, length, take, slice_index_or, IfOk, OnOk, IsTrue};
 ghost use Rattle.cnf_core.specs.Literal.{IsOver};
 ghost use Rattle.sat_order.specs.Lists.{holds};
 ghost use Rattle.sat_order.specs.Order.{passed, is_free, IsOrder};
 ghost use Rattle.sat_watch.specs.Literals.{is_true, AreApart};
 ghost use Rattle.sat_watch.specs.Trail.{literals, levels, up_to, Rises, IsSound};
+ghost use Rattle.derivation.specs.Propagation.{once};
+ghost use Rattle.sat_analysis.specs.Settled.{HasRoom};
 ghost use Rattle.sat_analysis.specs.Walk.{AreLeveled};
 ghost use Rattle.sat_solver.specs.Search.{known_by, AreSet};
 ghost use Rattle.sat_solver.specs.Queued.{IsQueued};
@@ -11,12 +13,19 @@ ghost use Rattle.sat_solver.specs.Queued.{IsQueued};
 use cnf_core::{Cnf, Lit};
 use derivation::Log;
 use no_memory::NoMemory;
+use sat_analysis::Minimiser;
 use sat_order::Queue;
 use sat_watch::{Entry, Trail};
 use std::alloc::Global;
 
-/// Notes the level of each entry from a place on, and that its variable has a value.
-pub(crate) fn note_entries(trail: &Trail, levels: &mut Vec<u32>, set: &mut Vec<bool>, from: usize)
+/// Notes the level of each entry from a place on, where it stands, and that its variable has a value.
+pub(crate) fn note_entries(
+    trail: &Trail,
+    levels: &mut Vec<u32>,
+    set: &mut Vec<bool>,
+    minimiser: &mut Minimiser,
+    from: usize,
+)
     requires within { from ≤ length trail.now.entries }
     requires levels_all { length levels.old.items ≡ trail.now.vars + 1 }
     requires set_all { length set.old.items ≡ trail.now.vars }
@@ -27,7 +36,9 @@ pub(crate) fn note_entries(trail: &Trail, levels: &mut Vec<u32>, set: &mut Vec<b
     ensures marked { AreSet set.new.items (literals trail.now.entries) }
     ensures levels_all { length levels.new.items ≡ length levels.old.items }
     ensures set_all { length set.new.items ≡ length set.old.items }
+    ensures room { (vars : ℕ) → HasRoom vars minimiser.old → HasRoom vars minimiser.new }
 {
+    minimiser.note(trail, from);
     let entries = trail.entries();
     for place in from..entries.len() {
         let entry = &entries[place];
@@ -72,16 +83,26 @@ pub(crate) fn release(
     }
 }
 
-/// Moves the variables of literals to the front of the queue. All of them have values.
-pub(crate) fn bump_all(queue: &mut Queue, lits: &[Lit], set: &[bool])
+/// Moves the variables of literals to the front of the queue, in the order in which they stand. All
+/// of them have values. The cost is that of sorting them.
+pub(crate) fn bump_all(
+    alloc: Global,
+    queue: &mut Queue,
+    lits: &[Lit],
+    set: &[bool],
+) -> Result<(), NoMemory>
     requires over { All (IsOver (length set.now)) lits.now }
+    requires apart { IsTrue (once lits.now) }
     requires have_values { All (λ lit. is_free set.now (lit / 2) ≡ false) lits.now }
     requires queued { IsQueued (length set.now) queue.old set.now }
-    ensures { IsQueued (length set.now) queue.new set.now }
+    ensures { OnOk result (IsQueued (length set.now) queue.new set.now) }
 {
+    let mut vars = Vec::new(alloc);
     for lit in lits {
-        queue.bump(lit.var());
+        vars.push(lit.var())?;
     }
+    queue.bump_all(alloc, &vars)?;
+    Ok(())
 }
 
 /// The value of each variable, false where it has none.

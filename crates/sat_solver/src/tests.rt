@@ -1,4 +1,4 @@
-ghost use Rattle.std.specs.Prelude.{◌≤◌, length};
+ghost use Rattle.std.specs.Prelude.{◌≤◌, ◌<◌, length};
 
 use super::*;
 use cnf_core::Cnf;
@@ -17,8 +17,16 @@ const FOUR_PIGEONS: &[u8] = b"p cnf 12 22\n1 2 3 0\n4 5 6 0\n7 8 9 0\n10 11 12 0
     -2 -5 0\n-2 -8 0\n-2 -11 0\n-5 -8 0\n-5 -11 0\n-8 -11 0\n\
     -3 -6 0\n-3 -9 0\n-3 -12 0\n-6 -9 0\n-6 -12 0\n-9 -12 0\n";
 
-/// The clauses over two variables, with tautologies and the empty one.
-const PIECES: [&[u8]; 16] = [
+/// The heads of formulas over two variables, by the number of their clauses.
+const HEADS: [&[u8]; 4] = [
+    b"p cnf 2 0\n",
+    b"p cnf 2 1\n",
+    b"p cnf 2 2\n",
+    b"p cnf 2 3\n",
+];
+
+/// The clauses over two variables, with tautologies and the empty one, and one that has a literal twice.
+const PIECES: [&[u8]; 17] = [
     b"0 ",
     b"1 0 ",
     b"-1 0 ",
@@ -34,6 +42,7 @@ const PIECES: [&[u8]; 16] = [
     b"2 -2 0 ",
     b"1 2 -2 0 ",
     b"-1 2 -2 0 ",
+    b"1 -1 2 -2 0 ",
     b"1 1 2 0 ",
 ];
 
@@ -96,18 +105,14 @@ fn is_satisfiable(rt: &impl Abort, cnf: &Cnf) -> bool {
         || cnf.is_true_under(&[true, true])
 }
 
-/// Solves the formula of three clauses, and compares the answer with the trial of all assignments.
-fn compare(
-    rt: &impl Abort,
-    alloc: Global,
-    first: &[u8],
-    second: &[u8],
-    third: &[u8],
-) -> Result<(), Fail> {
-    let mut text = Vec::from_slice(alloc, b"p cnf 2 3\n")?;
-    text.extend_from_slice(first)?;
-    text.extend_from_slice(second)?;
-    text.extend_from_slice(third)?;
+/// Solves the formula of these clauses, and compares the answer with the trial of all assignments.
+fn compare(rt: &impl Abort, alloc: Global, clauses: &[&[u8]]) -> Result<(), Fail>
+    requires { length clauses.now < 4 }
+{
+    let mut text = Vec::from_slice(alloc, HEADS[clauses.len()])?;
+    for clause in clauses {
+        text.extend_from_slice(clause)?;
+    }
     assert!(rt; text.len() < 1000);
     let solved = solve_text(alloc, text.as_slice(), 0)?;
     let wanted = is_satisfiable(rt, &solved.cnf);
@@ -129,10 +134,13 @@ fn compare(
 
 #[test]
 fn all_of_two_variables(rt: HostRuntime) -> Result<(), Fail> {
+    compare(&rt, rt.alloc(), &[])?;
     for first in PIECES {
+        compare(&rt, rt.alloc(), &[first])?;
         for second in PIECES {
+            compare(&rt, rt.alloc(), &[first, second])?;
             for third in PIECES {
-                compare(&rt, rt.alloc(), first, second, third)?;
+                compare(&rt, rt.alloc(), &[first, second, third])?;
             }
         }
     }

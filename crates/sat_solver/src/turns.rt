@@ -70,8 +70,28 @@ impl Search {
         if budget > 0 && self.log.lines().len() as u64 >= budget {
             return Ok(Some(SatAnswer::Spent));
         }
-        self.learn(alloc, clause)?;
+        self.learn_in_time(alloc, clause)?;
         Ok(None)
+    }
+
+    /// Learns from a clause that is false at a level above 0, and now and then begins again from
+    /// level 0.
+    fn learn_in_time(&mut self, alloc: Global, clause: u32) -> Result<(), NoMemory>
+        ghost clauses: { List (List ℕ) }
+        requires are_known { clauses ≡ known_by self.old.cnf self.old.log }
+        requires search { IsSearch self.old }
+        requires above { 0 < self.old.trail.level }
+        requires known { clause < length self.old.watches.clauses }
+        requires conflict { IsFalse (literals self.old.trail.entries) (slice_index_or self.old.watches.clauses clause []) }
+        ensures search { OnOk result (IsSearch self.new) }
+        ensures cnf { OnOk result (self.new.cnf ≡ self.old.cnf) }
+        ensures longer { OnOk result (length self.new.log ≡ length self.old.log + 1) }
+    {
+        self.learn(alloc, clause)?;
+        if self.pace.is_over() {
+            self.back_to(0);
+        }
+        Ok(())
     }
 
     /// Adds the empty line, by a clause that is false at level 0.

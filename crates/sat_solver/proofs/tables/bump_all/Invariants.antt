@@ -1,6 +1,6 @@
-use Rattle.std.proofs.Common.{length}
-use Rattle.sat_solver.specs.Queued.{IsQueued}
+use Rattle.std.proofs.Common.{◌≡◌, take}
+use Rattle.sat_solver.proofs.TableLemmas.{variables}
 use Rattle.sat_solver.proofs.tables.bump_all.Given as goal
 
 abbrev pub invariant-loop-lit : goal.invariant-loop-lit
-invariant-loop-lit l = IsQueued (length l.set) l.queue l.set
+invariant-loop-lit l = l.vars.items ≡ variables (take l.lit-index l.lits)

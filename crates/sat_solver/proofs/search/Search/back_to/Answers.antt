@@ -33,6 +33,7 @@ returns-clause-search c =
         };
         phases = c.release.ensures.phases_all ∙ vars;
         marks = b.marks;
+        minimiser = b.minimiser;
       };
       logged = c.requires.search.logged;
       over = c.requires.search.over;

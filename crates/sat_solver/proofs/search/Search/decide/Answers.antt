@@ -37,6 +37,7 @@ returns-clause-search c =
             (subst (λ (t : TrailState). AreSet c.note_entries.new.set.items (literals t.entries)) c.decide.ensures.adds c.note_entries.ensures.marked);
         phases = b.phases;
         marks = b.marks;
+        minimiser = c.note_entries.ensures.room s.cnf.vars b.minimiser;
       };
       logged = c.requires.search.logged;
       over = c.requires.search.over;

@@ -36,6 +36,7 @@ returns-clause-search c =
             (subst (λ es. AreSet c.note_entries.new.set.items (literals es)) entries c.note_entries.ensures.marked);
         phases = b.phases;
         marks = b.marks;
+        minimiser = c.note_entries.ensures.room s.cnf.vars b.minimiser;
       };
       logged = subst (IsLogged s.cnf) (sym log) (logged_push s.cnf s.log s.trail s.notes.levels.items lits c.args.line c.requires.search.logged b.vars c.requires.asserting);
       over = c.requires.search.over;

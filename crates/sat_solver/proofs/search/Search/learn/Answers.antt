@@ -5,7 +5,10 @@ use Rattle.sat_watch.specs.Literals.{has}
 use Rattle.sat_analysis.specs.Learnt.{IsLearnt}
 use Rattle.sat_analysis.specs.Noted.{IsNoted}
 use Rattle.sat_analysis.specs.declared.notes.Notes.{Notes}
+use Rattle.sat_watch.specs.Trail.{literals}
+use Rattle.sat_analysis.proofs.Lits.{once_false}
 use Rattle.sat_analysis.proofs.Order.{All_has}
+use Rattle.sat_analysis.specs.Settled.{HasRoom}
 use Rattle.sat_solver.specs.Search.{known_by}
 use Rattle.sat_solver.specs.Steps.{IsAsserting, unmarked}
 use Rattle.sat_solver.proofs.Holding.{asserting_back, asserting_same, visited_set}
@@ -18,14 +21,17 @@ of-requires g c =
     let level : s.trail.level - 1 < s.trail.level = omega (arith, c.requires.1.1.0) in (
       subst (λ k. IsNoted k s.watches s.trail s.notes) (sym c.requires.0) b.running.noted,
       (
-        b.marks ∙ ap unmarked (sym b.vars),
+        subst (λ v. HasRoom v s.minimiser) (sym b.vars) b.minimiser,
         (
-          c.requires.1.1.0,
+          b.marks ∙ ap unmarked (sym b.vars),
           (
-            c.requires.1.1.1.0,
+            c.requires.1.1.0,
             (
-              c.requires.1.1.1.1,
-              (b.running.quiet (s.trail.level - 1) level c.args.clause [] c.requires.1.1.1.0).not_false,
+              c.requires.1.1.1.0,
+              (
+                c.requires.1.1.1.1,
+                (b.running.quiet (s.trail.level - 1) level c.args.clause [] c.requires.1.1.1.0).not_false,
+              ),
             ),
           ),
         ),
@@ -46,6 +52,11 @@ bump_all-requires-clause-have_values g c =
     let b = c.requires.1.0.built in
     subst (λ vs. All (λ lit. is_free vs (lit / 2) ≡ false) c.lits.result.now) (sym c.deref.ensures.value)
     (All_has (λ lit. is_free s.set.items (lit / 2) ≡ false) c.lits.result.now (λ lit h. (visited_set s.trail s.set.items c.of.new.marks.lits c.in_ok-line.ensures.sound b.running.marked c.in_ok-line.ensures.marked lit (subst (λ ms. has ms lit ≡ true) c.lits.ensures.value h)).1))
+
+pub bump_all-requires-clause-apart : goal.bump_all-requires-clause-apart
+bump_all-requires-clause-apart g c =
+    once_false (literals c.args.self.now.trail.entries) c.lits.result.now c.in_ok-line.ensures.sound.apart c.lits.ensures.once
+    (λ lit h. c.in_ok-line.ensures.marked lit (subst (λ ms. has ms lit ≡ true) c.lits.ensures.value h))
 
 pub hold_one-requires-clause-asserting : goal.hold_one-requires-clause-asserting
 hold_one-requires-clause-asserting g c =

@@ -30,6 +30,7 @@ returns-clause-loading c =
         queued = b.queued;
         phases = b.phases;
         marks = b.marks;
+        minimiser = b.minimiser;
       };
       over = c.requires.clause_over;
       log = c.requires.loading.log;

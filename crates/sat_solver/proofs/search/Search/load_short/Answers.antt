@@ -31,6 +31,7 @@ returns-then-is_true-2-clause-loading c = λ _.
         queued = b.queued;
         phases = b.phases;
         marks = b.marks;
+        minimiser = b.minimiser;
       };
       over = c.requires.clause_over;
       log = c.requires.loading.log;

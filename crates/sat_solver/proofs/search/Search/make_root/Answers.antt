@@ -44,6 +44,7 @@ returns-clause-loading c =
             (subst (λ es. AreSet c.note_entries.new.set.items (literals es)) entries c.note_entries.ensures.marked);
         phases = b.phases;
         marks = b.marks;
+        minimiser = c.note_entries.ensures.room s.cnf.vars b.minimiser;
       };
       over = c.requires.clause_over;
       log = c.requires.loading.log;

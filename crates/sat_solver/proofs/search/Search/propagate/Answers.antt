@@ -29,6 +29,7 @@ returns-clause-search c =
             (subst (λ es. AreSet c.note_entries.new.set.items (literals es)) g.is c.note_entries.ensures.marked);
         phases = b.phases;
         marks = b.marks;
+        minimiser = c.note_entries.ensures.room s.cnf.vars b.minimiser;
       };
       logged = c.requires.logged;
       over = c.requires.over;

@@ -15,10 +15,10 @@ returns-then-lines-budget-clause-answers c =
 pub returns-clause-goes_on : goal.returns-clause-goes_on
 returns-clause-goes_on c =
     let s = c.args.self.now in
-    let new = c.learn.new.self in
-    let search = c.in_ok-learn.ensures.search in
-    let longer : length new.log ≡ length s.log + 1 = c.in_ok-learn.ensures.longer in
-    let vars : new.cnf.vars ≡ s.cnf.vars = ap (λ f. f.vars) c.in_ok-learn.ensures.cnf in
+    let new = c.learn_in_time.new.self in
+    let search = c.in_ok-learn_in_time.ensures.search in
+    let longer : length new.log ≡ length s.log + 1 = c.in_ok-learn_in_time.ensures.longer in
+    let vars : new.cnf.vars ≡ s.cnf.vars = ap (λ f. f.vars) c.in_ok-learn_in_time.ensures.cnf in
     let few : length new.log ≤ 3 ^ new.cnf.vars = lines_few new.cnf new.log search.logged in
     let few' : length s.log + 1 ≤ 3 ^ s.cnf.vars = subst (λ n. n ≤ 3 ^ s.cnf.vars) longer (subst (λ v. length new.log ≤ 3 ^ v) vars few) in
     record {
