@@ -1,0 +1,5 @@
+pub mod Numbers
+pub mod Commands
+pub mod Parsing
+pub mod Limits
+pub mod Asked

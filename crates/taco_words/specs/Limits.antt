@@ -1,0 +1,51 @@
+-- The ranges of the numbers of a request.
+use Rattle.std.specs.Prelude.{ℕ, ◌<◌, ◌≤◌, List, length, IfSome}
+use Rattle.std.specs.List.{All}
+use Rattle.heap_core.specs.declared.problem.Scope.{Scope}
+use Rattle.heap_core.specs.declared.problem.Plan.{Plan}
+use Rattle.taco_words.specs.declared.request.Job.{Job}
+use Rattle.taco_words.specs.declared.request.Request.{Request}
+use Rattle.taco_words.specs.declared.request.Request.TheVariants as request
+use Rattle.taco_words.specs.Numbers.{most_entries}
+
+-- the greatest budget of a search
+abbrev pub most_conflicts : ℕ
+most_conflicts = 1000000000
+
+-- the greatest number of a unit that is made
+abbrev pub most_stress : ℕ
+most_stress = 65536
+
+pub record IsScope (s : Scope) : Type 0 where
+  pub objects_low : 1 ≤ s.objects
+  pub objects_high : s.objects ≤ 12
+  pub ints_low : 2 ≤ s.ints
+  pub ints_high : s.ints ≤ 16
+  pub loops_high : s.loops ≤ 12
+  pub calls_high : s.calls ≤ 4
+
+pub record IsPlan (p : Plan) : Type 0 where
+  pub workers_low : 1 ≤ p.workers
+  pub workers_high : p.workers ≤ 16
+  pub rounds_low : 1 ≤ p.rounds
+  pub rounds_high : p.rounds ≤ 8
+  pub budget_high : p.budget ≤ most_conflicts
+
+pub record IsJob (job : Job) : Type 0 where
+  pub scope : IsScope job.scope
+  pub plan : IsPlan job.plan
+
+-- one to 4,096 worker numbers
+pub record IsSchedule (workers : ℕ) (entries : List ℕ) : Type 0 where
+  pub some : 0 < length entries
+  pub few : length entries ≤ most_entries
+  pub each : All (λ n. n < workers) entries
+
+-- all numbers of the request are in their ranges
+abbrev pub IsWithin : Request → Type 0
+IsWithin (request.Check job budget) = IsJob job × (budget ≤ most_conflicts)
+IsWithin (request.Bounds job schedule) = IsJob job × IfSome schedule (IsSchedule job.plan.workers)
+IsWithin (request.Replay job state) = IsJob job
+IsWithin (request.Sat cnf budget) = budget ≤ most_conflicts
+IsWithin (request.Proof cnf log) = Unit {0}
+IsWithin (request.Stress number) = number ≤ most_stress
