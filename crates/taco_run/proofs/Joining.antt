@@ -9,9 +9,9 @@ use Rattle.taco_run.specs.declared.answer.Evidence.{Evidence}
 use Rattle.taco_run.specs.declared.answer.Status.{Status}
 use Rattle.taco_run.specs.declared.answer.Status.TheVariants as status
 use Rattle.taco_run.specs.declared.outcome.Outcome.{Outcome}
-use Rattle.taco_run.specs.declared.request.Job.{Job}
-use Rattle.taco_run.specs.declared.request.Request.{Request}
-use Rattle.taco_run.specs.declared.request.Request.TheVariants as request
+use Rattle.taco_words.specs.declared.request.Job.{Job}
+use Rattle.taco_words.specs.declared.request.Request.{Request}
+use Rattle.taco_words.specs.declared.request.Request.TheVariants as request
 use Rattle.taco_run.specs.Decided.{Decides}
 use Rattle.taco_run.specs.Headline.{java_limit, Holding, IsPosed, IsNoText, LacksMethod, Leaves, Answers, Says, Runs}
 use Rattle.taco_run.specs.Steps.{IsAnswered, IsSilent, IsOrNoMemory, IsWritten}
@@ -22,10 +22,10 @@ lifted bytes None P same holds = tt
 lifted bytes (Some xs) P same holds = subst P same holds
 
 -- what is said where these bytes are told is said where the file tells its content, if it does
-told_too : (content : List ℕ → Option (List ℕ)) (job : Job) (bytes : List ℕ) (ends : Status) (output : List ℕ) → IfSome (content job.file) (λ xs. bytes ≡ xs)
-    → Says (λ name. Some bytes) (Some (request.Check job 0)) ends output → Says content (Some (request.Check job 0)) ends output
-told_too content job bytes status.Holds output same says = (says.0, lifted bytes (content job.file) (λ b. Holding b job) same says.1)
-told_too content job bytes status.Violated output same says =
+told_too : (budget : ℕ) (content : List ℕ → Option (List ℕ)) (job : Job) (bytes : List ℕ) (ends : Status) (output : List ℕ) → IfSome (content job.file) (λ xs. bytes ≡ xs)
+    → Says (λ name. Some bytes) (Some (request.Check job budget)) ends output → Says content (Some (request.Check job budget)) ends output
+told_too budget content job bytes status.Holds output same says = (says.0, lifted bytes (content job.file) (λ b. Holding b job) same says.1)
+told_too budget content job bytes status.Violated output same says =
     record {
       problem = says.problem;
       start = says.start;
@@ -34,17 +34,17 @@ told_too content job bytes status.Violated output same says =
       violates = says.violates;
       report = says.report;
     }
-told_too content job bytes status.Done output same says = says
-told_too content job bytes status.Broken output same says = says
-told_too content job bytes status.Unknown output same says = says
-told_too content job bytes status.Usage output same says = says
-told_too content job bytes status.NotBuilt output same says = (says.0, lifted bytes (content job.file) IsNoText same says.1)
-told_too content job bytes status.NoMethod output same says = (says.0, lifted bytes (content job.file) (λ b. LacksMethod b job) same says.1)
-told_too content job bytes (status.BadText slot at) output same says = says
-told_too content job bytes (status.TooLong slot) output same says = (says.0, says.1, lifted bytes (content job.file) (λ b. java_limit < length b) same says.2)
-told_too content job bytes status.ReadFault output same says = says
-told_too content job bytes status.WriteFault output same says = says
-told_too content job bytes status.NoMemory output same says = says
+told_too budget content job bytes status.Done output same says = says
+told_too budget content job bytes status.Broken output same says = says
+told_too budget content job bytes status.Unknown output same says = says
+told_too budget content job bytes status.Usage output same says = says
+told_too budget content job bytes status.NotBuilt output same says = (says.0, lifted bytes (content job.file) IsNoText same says.1)
+told_too budget content job bytes status.NoMethod output same says = (says.0, lifted bytes (content job.file) (λ b. LacksMethod b job) same says.1)
+told_too budget content job bytes (status.BadText slot at) output same says = says
+told_too budget content job bytes (status.TooLong slot) output same says = (says.0, says.1, lifted bytes (content job.file) (λ b. java_limit < length b) same says.2)
+told_too budget content job bytes status.ReadFault output same says = says
+told_too budget content job bytes status.WriteFault output same says = says
+told_too budget content job bytes status.NoMemory output same says = says
 
 -- want of memory is said with no output
 silent_says : (told : List ℕ → Option (List ℕ)) (asked : Option Request) (output : List ℕ) → output ≡ [] → Says told asked status.NoMemory output
@@ -52,6 +52,9 @@ silent_says told None output silent = silent
 silent_says told (Some (request.Check job budget)) output silent = silent
 silent_says told (Some (request.Proof cnf log)) output silent = silent
 silent_says told (Some (request.Sat cnf budget)) output silent = silent
+silent_says told (Some (request.Bounds job schedule)) output silent = silent
+silent_says told (Some (request.Replay job state)) output silent = silent
+silent_says told (Some (request.Stress number)) output silent = silent
 
 -- want of memory answers every request
 silent_answered : (asked : Option Request) (old new : Shelf) (o : Outcome) → IsCalm old new → Leaves asked old new → IsSilent status.NoMemory o → IsAnswered asked old new None o.status o.output.items
@@ -68,18 +71,19 @@ leaves_check : (job : Job) (budget : ℕ) (old new : Shelf) → Stays 0 old new 
 leaves_check job budget old new stays = record { content = stays.content; faults = stays.faults; name = stays.name; rest = stays.rest }
 
 -- the check of a file that was read
-pub answered_ok : (job : Job) (old new : Shelf) (bytes : List ℕ) (r : Result Outcome NoMemory) (o : Outcome) → IfSome (old.content job.file) (λ xs. bytes ≡ xs) → IsCalm old new → Stays 0 old new
-    → IfOk r (Decides bytes job) → IsOrNoMemory r o → IsAnswered (Some (request.Check job 0)) old new None o.status o.output.items
-answered_ok job old new bytes (Ok d) o told calm stays decides is =
-    let answered : IsAnswered (Some (request.Check job 0)) old new None d.status d.output.items =
+pub answered_ok : (budget : ℕ) (job : Job) (old new : Shelf) (bytes : List ℕ) (r : Result Outcome NoMemory) (o : Outcome) → IfSome (old.content job.file) (λ xs. bytes ≡ xs) → IsCalm old new
+    → Stays 0 old new → IfOk r (Decides bytes job) → IsOrNoMemory r o → IsAnswered (Some (request.Check job budget)) old new None o.status o.output.items
+answered_ok budget job old new bytes (Ok d) o told calm stays decides is =
+    let answered : IsAnswered (Some (request.Check job budget)) old new None d.status d.output.items =
     record {
-      says = told_too old.content job bytes d.status d.output.items told decides.by;
+      says = told_too budget old.content job bytes d.status d.output.items told (decides.by budget);
       read_fault = λ fault. absurd (decides.no_fault fault);
       no_read_fault = λ none. calm;
-      leaves = leaves_check job 0 old new stays;
+      leaves = leaves_check job budget old new stays;
     } in
-    subst (λ x. IsAnswered (Some (request.Check job 0)) old new None x.status x.output.items) (sym is) answered
-answered_ok job old new bytes (Err refused) o told calm stays decides silent = silent_answered (Some (request.Check job 0)) old new o calm (leaves_check job 0 old new stays) silent
+    subst (λ x. IsAnswered (Some (request.Check job budget)) old new None x.status x.output.items) (sym is) answered
+answered_ok budget job old new bytes (Err refused) o told calm stays decides silent =
+    silent_answered (Some (request.Check job budget)) old new o calm (leaves_check job budget old new stays) silent
 
 -- either the writing failed or it did not
 cut_or_not : (ends : Status) → (ends ≡ status.WriteFault) ⊎ (ends ≢ status.WriteFault)
@@ -102,10 +106,16 @@ read_fault_silent None told None output says = absurd says
 read_fault_silent None told (Some (request.Check job budget)) output says = says
 read_fault_silent None told (Some (request.Proof cnf log)) output says = says
 read_fault_silent None told (Some (request.Sat cnf budget)) output says = says
+read_fault_silent None told (Some (request.Bounds job schedule)) output says = absurd says
+read_fault_silent None told (Some (request.Replay job state)) output says = absurd says
+read_fault_silent None told (Some (request.Stress number)) output says = absurd says
 read_fault_silent (Some proof) told None output says = absurd says
 read_fault_silent (Some proof) told (Some (request.Check job budget)) output says = absurd says
 read_fault_silent (Some proof) told (Some (request.Proof cnf log)) output says = absurd says
 read_fault_silent (Some proof) told (Some (request.Sat cnf budget)) output says = absurd says.verdict
+read_fault_silent (Some proof) told (Some (request.Bounds job schedule)) output says = absurd says
+read_fault_silent (Some proof) told (Some (request.Replay job state)) output says = absurd says
+read_fault_silent (Some proof) told (Some (request.Stress number)) output says = absurd says
 
 -- a call that does not end with ReadFault had none
 no_hidden_fault : (asked : Option Request) (old new : Shelf) (before after : Taken) (proof : Option Evidence) (o : Outcome) (ends : Status) → IsAnswered asked old new proof o.status o.output.items → IsWritten o.status o.output.items before after ends

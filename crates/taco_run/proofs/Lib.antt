@@ -2,8 +2,6 @@ pub mod Deciding
 pub mod Joined
 pub mod Lines
 pub mod Plainly
-pub mod Words
 pub mod Joining
 pub mod Formulas
-pub mod Numbers
 pub mod Searching

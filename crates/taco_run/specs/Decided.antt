@@ -8,8 +8,8 @@ use Rattle.heap_core.specs.Judge.{Violates, Violable}
 use Rattle.taco_run.specs.declared.answer.Status.{Status}
 use Rattle.taco_run.specs.declared.answer.Status.TheVariants as status
 use Rattle.taco_run.specs.declared.outcome.Outcome.{Outcome}
-use Rattle.taco_run.specs.declared.request.Job.{Job}
-use Rattle.taco_run.specs.declared.request.Request.TheVariants as request
+use Rattle.taco_words.specs.declared.request.Job.{Job}
+use Rattle.taco_words.specs.declared.request.Request.TheVariants as request
 use Rattle.taco_run.specs.Headline.{Names, Says}
 use Rattle.taco_run.specs.Texts.{line, no_tuples, holds_report, violated_report}
 
@@ -37,7 +37,7 @@ ChecksBy u job ends output = (class : ℕ) × (method : ℕ) × Names u job clas
 pub record Checks (u : Parts) (job : Job) (outcome : Outcome) : Type 0 where
   pub by : ChecksBy u job outcome.status outcome.output.items
 
--- what a check of a text comes to: what the table says where these bytes are told
+-- what a check of a text comes to, whatever its budget: what the table says where these bytes are told
 pub record Decides (bytes : List ℕ) (job : Job) (outcome : Outcome) : Type 0 where
-  pub by : Says (λ name. Some bytes) (Some (request.Check job 0)) outcome.status outcome.output.items
+  pub by : (budget : ℕ) → Says (λ name. Some bytes) (Some (request.Check job budget)) outcome.status outcome.output.items
   pub no_fault : outcome.status ≢ status.ReadFault

@@ -18,9 +18,9 @@ use Rattle.thin_reader.specs.Units.{Reads}
 use Rattle.taco_run.specs.declared.answer.Evidence.{Evidence}
 use Rattle.taco_run.specs.declared.answer.Status.{Status}
 use Rattle.taco_run.specs.declared.answer.Status.TheVariants as status
-use Rattle.taco_run.specs.declared.request.Job.{Job}
-use Rattle.taco_run.specs.declared.request.Request.{Request}
-use Rattle.taco_run.specs.declared.request.Request.TheVariants as request
+use Rattle.taco_words.specs.declared.request.Job.{Job}
+use Rattle.taco_words.specs.declared.request.Request.{Request}
+use Rattle.taco_words.specs.declared.request.Request.TheVariants as request
 use Rattle.taco_run.specs.ProofCommand.{IsTooLong, IsNoFormula, IsNoLog, IsJudged, HoldsFormula, LiesIn}
 use Rattle.taco_run.specs.SatCommand.{IsSearched}
 use Rattle.taco_run.specs.Texts.{line, no_tuples, holds_report, violated_report, badtext_line}
@@ -100,24 +100,22 @@ Says told asked _ output = ⊥
 -- the evidence that goes with an output: each verdict of a search has some, and nothing else has
 abbrev pub Answers : Option Evidence → (told : List ℕ → Option (List ℕ)) → Option Request → Status → List ℕ → Type 0
 Answers None told asked ends output = Says told asked ends output
-Answers (Some proof) told None ends output = ⊥
-Answers (Some proof) told (Some (request.Check job budget)) ends output = ⊥
-Answers (Some proof) told (Some (request.Proof cnf log)) ends output = ⊥
 Answers (Some proof) told (Some (request.Sat cnf budget)) ends output = IsSearched told cnf budget proof ends output
+Answers (Some proof) told _ ends output = ⊥
 
 -- the count of a file that is asked about rose; the log is only looked at where the other file holds a formula
 abbrev pub FileRose : Option Request → Shelf → Shelf → Type 0
-FileRose None old new = ⊥
 FileRose (Some (request.Check job budget)) old new = NameRose job.file old new
 FileRose (Some (request.Proof cnf log)) old new = NameRose cnf old new ⊎ ((formula : Clauses) × HoldsFormula old.content cnf formula × NameRose log old new)
 FileRose (Some (request.Sat cnf budget)) old new = NameRose cnf old new
+FileRose _ old new = ⊥
 
 -- the request reads through this slot: FILE and CNF through slot 0, LOG through slot 1
 abbrev pub Uses : Option Request → ℕ → Type 0
-Uses None slot = ⊥
 Uses (Some (request.Check job budget)) slot = slot ≡ 0
 Uses (Some (request.Proof cnf log)) slot = (slot ≡ 0) ⊎ (slot ≡ 1)
 Uses (Some (request.Sat cnf budget)) slot = slot ≡ 0
+Uses _ slot = ⊥
 
 -- no content changed, no count fell, and the slots that the request does not use are as they were
 pub record Leaves (asked : Option Request) (old new : Shelf) : Type 0 where

@@ -1,4 +1,4 @@
-pub mod Asked
+pub mod Served
 pub mod Statuses
 pub mod Texts
 pub mod TextEnds

@@ -12,7 +12,7 @@ use Rattle.taco_run.specs.declared.answer.Status.TheVariants as status
 use Rattle.taco_run.specs.declared.outcome.Outcome.{Outcome}
 use Rattle.taco_run.specs.declared.outcome.TextEnd.{TextEnd}
 use Rattle.taco_run.specs.declared.outcome.TextEnd.TheVariants as end
-use Rattle.taco_run.specs.declared.request.Request.{Request}
+use Rattle.taco_words.specs.declared.request.Request.{Request}
 use Rattle.taco_run.specs.Headline.{Answers, FileRose, Leaves}
 use Rattle.taco_run.specs.ProofCommand.{IsTooLong}
 use Rattle.taco_run.specs.Texts.{line, badtext_line}

@@ -1,28 +1,31 @@
-ghost use Rattle.std.specs.Prelude.{◌≡◌, ◌≢◌, map, codes, Some, None};
+ghost use Rattle.std.specs.Prelude.{◌≡◌, ◌≢◌, ℕ, map, codes, Some, None};
 ghost use Rattle.taco_run.specs.declared.answer.Status.TheVariants as status;
-ghost use Rattle.taco_run.specs.declared.request.Request.TheVariants as request;
-ghost use Rattle.taco_run.specs.Asked.{asked, plain_request, usual_scope};
+ghost use Rattle.taco_words.specs.declared.request.Request.TheVariants as request;
 ghost use Rattle.taco_run.specs.Headline.{Runs};
+ghost use Rattle.taco_run.specs.Served.{served, served_plainly};
 ghost use Rattle.taco_run.specs.Steps.{IsAnswered, IsEnding, IsWritten};
 ghost use Rattle.taco_run.specs.Texts.{line};
+ghost use Rattle.taco_words.specs.Asked.{asked};
+ghost use Rattle.taco_words.specs.Limits.{IsScope, IsWithin};
 
 use crate::answer::{Answer, Status};
 use crate::check::decide;
 use crate::outcome::{Outcome, Reply, ended, or_no_memory, plain, refusal, silent};
 use crate::proof_command::check_log;
 use crate::reading::read_file;
-use crate::request::{Job, Request, RequestFault, request_of};
 use crate::sat_command::search_formula;
 use std::alloc::Global;
 use taco_io::{Files, Sink, write_all};
+use taco_words::{Job, Request, RequestFault, request_of};
 
 /// The most bytes of a Java text.
 const JAVA_LIMIT: u32 = 262_144;
 
-/// Does a check.
+/// Does a check. A plain method is decided without workers and without a search, so neither the plan
+/// nor a bound on the conflicts changes anything.
 fn check_file<F: Files>(alloc: Global, files: &mut F, job: &Job) -> Outcome
-    requires { job.now.scope ≡ usual_scope }
-    ensures { IsAnswered (Some (request.Check job.now 0)) (F.shelf files.old) (F.shelf files.new) None result.status result.output.items }
+    requires { IsScope job.now.scope }
+    ensures { (budget : ℕ) → IsAnswered (Some (request.Check job.now budget)) (F.shelf files.old) (F.shelf files.new) None result.status result.output.items }
 {
     match read_file(alloc, files, 0, job.file.as_str(), JAVA_LIMIT) {
         Ok(bytes) => or_no_memory(alloc, decide(alloc, &bytes, job)),
@@ -39,22 +42,33 @@ fn usage(alloc: Global) -> Outcome
 
 /// Does a request of those that `run_plain` serves.
 fn plain_answer<F: Files>(alloc: Global, request: &Request, files: &mut F) -> Reply
-    ensures { IsAnswered (plain_request (Some request.now)) (F.shelf files.old) (F.shelf files.new) result.proof result.outcome.status result.outcome.output.items }
+    ensures { IsAnswered (served_plainly (Some request.now)) (F.shelf files.old) (F.shelf files.new) result.proof result.outcome.status result.outcome.output.items }
 {
     match request {
-        Request::Check(_, _) => plain(usage(alloc)),
         Request::Proof(cnf, log) => plain(check_log(alloc, files, cnf, log)),
         Request::Sat(cnf, budget) => search_formula(alloc, files, cnf, *budget),
+        Request::Check(_, _) | Request::Bounds(_, _) | Request::Replay(_, _) | Request::Stress(_) =>
+            plain(usage(alloc)),
+    }
+}
+
+/// Does a request of those that `run` serves.
+fn answer<F: Files>(alloc: Global, request: &Request, files: &mut F) -> Reply
+    requires { IsWithin request.now }
+    ensures { IsAnswered (served (Some request.now)) (F.shelf files.old) (F.shelf files.new) result.proof result.outcome.status result.outcome.output.items }
+{
+    match request {
+        Request::Check(job, _) => plain(check_file(alloc, files, job)),
+        _ => plain_answer(alloc, request, files),
     }
 }
 
 /// Does what the words ask for.
 fn answer_of<F: Files>(alloc: Global, words: &[&str], files: &mut F) -> Reply
-    ensures { IsAnswered (asked (map (λ w. w.now) words.now)) (F.shelf files.old) (F.shelf files.new) result.proof result.outcome.status result.outcome.output.items }
+    ensures { IsAnswered (served (asked (map (λ w. w.now) words.now))) (F.shelf files.old) (F.shelf files.new) result.proof result.outcome.status result.outcome.output.items }
 {
     match request_of(alloc, words) {
-        Ok(Request::Check(job, _)) => plain(check_file(alloc, files, &job)),
-        Ok(request) => plain_answer(alloc, &request, files),
+        Ok(request) => answer(alloc, &request, files),
         Err(RequestFault::Usage) => plain(usage(alloc)),
         Err(RequestFault::NoMemory) => plain(silent(alloc, Status::NoMemory)),
     }
@@ -62,7 +76,7 @@ fn answer_of<F: Files>(alloc: Global, words: &[&str], files: &mut F) -> Reply
 
 /// Does what the words ask for, if `run_plain` serves it.
 fn plain_answer_of<F: Files>(alloc: Global, words: &[&str], files: &mut F) -> Reply
-    ensures { IsAnswered (plain_request (asked (map (λ w. w.now) words.now))) (F.shelf files.old) (F.shelf files.new) result.proof result.outcome.status result.outcome.output.items }
+    ensures { IsAnswered (served_plainly (asked (map (λ w. w.now) words.now))) (F.shelf files.old) (F.shelf files.new) result.proof result.outcome.status result.outcome.output.items }
 {
     match request_of(alloc, words) {
         Ok(request) => plain_answer(alloc, &request, files),
@@ -82,12 +96,14 @@ fn finish<K: Sink>(sink: &mut K, outcome: &Outcome) -> Status
     }
 }
 
-/// Does what the words of a command line ask for: `check FILE --class C --method M` prints whether
-/// the method keeps its contract within the usual scope, and what `run_plain` serves is done as there.
-/// Every other list of words is refused. The whole output is made before the first byte is pushed.
+/// Does what the words of a command line ask for (`request_of` has the commands and their options).
+/// `check FILE --class C --method M [scope] [plan] [--conflicts B]` prints whether the method keeps its
+/// contract within the scope that was asked for; plan and B change nothing so far. What `run_plain` serves
+/// is done as there. `bounds`, `replay` and `stress`, which are to come, are refused as every other list of
+/// words is. The whole output is made before the first byte is pushed.
 #[tactic(auto, using(crate::proofs::Joining::ran))]
 pub fn run<F: Files, K: Sink>(alloc: Global, words: &[&str], files: &mut F, sink: &mut K) -> Answer
-    ensures { Runs (asked (map (λ w. w.now) words.now)) result.proof result.status (F.shelf files.old) (F.shelf files.new) (K.taken sink.old) (K.taken sink.new) }
+    ensures { Runs (served (asked (map (λ w. w.now) words.now))) result.proof result.status (F.shelf files.old) (F.shelf files.new) (K.taken sink.old) (K.taken sink.new) }
 {
     let Reply { outcome, proof } = answer_of(alloc, words, files);
     let status = finish(sink, &outcome);
@@ -100,7 +116,7 @@ pub fn run<F: Files, K: Sink>(alloc: Global, words: &[&str], files: &mut F, sink
 /// `valid N` where they follow and it is not; both are Done. It prints `badline N` with Broken where line
 /// N, counted from 1, is the first that does not follow.
 ///
-/// `sat CNF` and `sat CNF --conflicts B` search for values that satisfy the formula in CNF. Done comes
+/// `sat CNF [--conflicts B]` searches for values that satisfy the formula in CNF. Done comes
 /// with `s SATISFIABLE` and the line of the values, or with `s UNSATISFIABLE` and the text of a log that
 /// refutes the formula. `s UNKNOWN` comes with Unknown where B lines were learnt without a verdict; where B
 /// is 0 or not given it never comes. With these three the answer has its evidence. A search always ends,
@@ -118,7 +134,7 @@ pub fn run_plain<F: Files, K: Sink>(
     files: &mut F,
     sink: &mut K,
 ) -> Answer
-    ensures { Runs (plain_request (asked (map (λ w. w.now) words.now))) result.proof result.status (F.shelf files.old) (F.shelf files.new) (K.taken sink.old) (K.taken sink.new) }
+    ensures { Runs (served_plainly (asked (map (λ w. w.now) words.now))) result.proof result.status (F.shelf files.old) (F.shelf files.new) (K.taken sink.old) (K.taken sink.new) }
 {
     let Reply { outcome, proof } = plain_answer_of(alloc, words, files);
     let status = finish(sink, &outcome);

@@ -1,24 +1,24 @@
 ghost use Rattle.std.specs.Prelude.{◌≡◌, ◌<◌, ◌≤◌, length, IfOk};
-ghost use Rattle.taco_run.specs.Asked.{usual_scope};
+ghost use Rattle.taco_words.specs.Limits.{IsScope};
 ghost use Rattle.taco_run.specs.Decided.{Checks, Decides, Tells};
 ghost use Rattle.thin_reader.specs.Good.{AllPlain};
 ghost use Rattle.taco_run.specs.Headline.{java_limit};
 
 use crate::answer::Status;
 use crate::outcome::{Outcome, refusal};
-use crate::request::Job;
 use crate::texts::{holds_text, violated_text};
 use boolean_trial::tried;
 use heap_core::Problem;
 use no_memory::NoMemory;
 use std::alloc::Global;
 use taco_unit::Unit;
+use taco_words::Job;
 use thin_reader::read_unit;
 
 /// Tries a method of a unit.
 fn try_method(alloc: Global, unit: Unit, method: u8, job: &Job) -> Result<Outcome, NoMemory>
     requires there { method < length unit.methods }
-    requires scope { job.now.scope ≡ usual_scope }
+    requires scope { IsScope job.now.scope }
     requires plain { AllPlain unit }
     ensures { IfOk result (Tells (record { unit = unit; method = method; scope = job.now.scope })) }
 {
@@ -42,7 +42,7 @@ fn try_method(alloc: Global, unit: Unit, method: u8, job: &Job) -> Result<Outcom
 
 /// Looks a method up in a unit, and tries it.
 fn check_unit(alloc: Global, unit: Unit, job: &Job) -> Result<Outcome, NoMemory>
-    requires scope { job.now.scope ≡ usual_scope }
+    requires scope { IsScope job.now.scope }
     requires plain { AllPlain unit }
     ensures { IfOk result (Checks unit job.now) }
 {
@@ -57,7 +57,7 @@ fn check_unit(alloc: Global, unit: Unit, job: &Job) -> Result<Outcome, NoMemory>
 
 /// Decides a check of a text.
 pub(crate) fn decide(alloc: Global, bytes: &[u8], job: &Job) -> Result<Outcome, NoMemory>
-    requires scope { job.now.scope ≡ usual_scope }
+    requires scope { IsScope job.now.scope }
     requires short { length bytes.now ≤ java_limit }
     ensures { IfOk result (Decides bytes.now job.now) }
 {

@@ -5,17 +5,15 @@
 mod answer;
 mod call;
 mod check;
-mod number;
 mod outcome;
 mod proof_command;
 mod reading;
-mod request;
 mod sat_command;
 mod texts;
 
 pub use answer::{Answer, Evidence, Status};
 pub use call::{run, run_plain};
-pub use request::{Job, Request, RequestFault, Text, request_of};
+pub use taco_words::{Job, Request, RequestFault, Schedule, Text, request_of};
 
 #[cfg(test)]
 mod proof_tests;

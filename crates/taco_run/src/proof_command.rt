@@ -1,6 +1,6 @@
 ghost use Rattle.std.specs.Prelude.{◌≡◌, ◌^◌, ◌<◌, ◌≤◌, length, Some, None, IfOk, if◌then◌else◌};
 ghost use Rattle.taco_io.specs.Shelf.{Stays};
-ghost use Rattle.taco_run.specs.declared.request.Request.TheVariants as request;
+ghost use Rattle.taco_words.specs.declared.request.Request.TheVariants as request;
 ghost use Rattle.taco_run.specs.ProofCommand.{text_limit, IsFormula, IsLog, IsNoFormula, IsNoLog, TellsLog};
 ghost use Rattle.taco_run.specs.Steps.{Fetches, IsAnswered, TakesFor};
 ghost use Rattle.taco_run.specs.Texts.{refuted_line, valid_line};
@@ -8,13 +8,13 @@ ghost use Rattle.taco_run.specs.Texts.{refuted_line, valid_line};
 use crate::answer::Status;
 use crate::outcome::{Outcome, TextEnd, ended, or_no_memory};
 use crate::reading::read_file;
-use crate::request::Text;
 use crate::texts::{badline, refuted, valid};
 use cnf_core::Cnf;
 use derivation::{CheckFault, Checked, Log, check, read_cnf, read_log};
 use no_memory::NoMemory;
 use std::alloc::Global;
 use taco_io::Files;
+use taco_words::Text;
 
 /// The most bytes of the text of a formula, and of that of a log.
 const TEXT_LIMIT: u32 = 4_194_304;

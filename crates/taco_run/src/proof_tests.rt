@@ -140,14 +140,11 @@ fn texts_over_the_limit(rt: HostRuntime) -> Result<(), Fail> {
 }
 
 #[test]
-fn other_words_are_refused(rt: HostRuntime) -> Result<(), Fail> {
+fn other_commands_are_refused(rt: HostRuntime) -> Result<(), Fail> {
     let alloc = rt.alloc();
     let mut files = shelf(alloc, ALL_FOUR, b"", 9, &[])?;
     let mut sink = MemSink::new(alloc, 100, 9, Vec::new(alloc))?;
-    let lists: [&[&str]; 5] = [
-        &["proof", "F.cnf"],
-        &["proof", "F.cnf", "F.log", "F.log"],
-        &["proof", "F.cnf", "--F.log"],
+    let lists: [&[&str]; 2] = [
         &["prove", "F.cnf", "F.log"],
         &["check", "B.java", "--class", "B", "--method", "id"],
     ];
@@ -157,10 +154,7 @@ fn other_words_are_refused(rt: HostRuntime) -> Result<(), Fail> {
             Status::Usage
         );
     }
-    assert_eq!(rt;
-        sink.bytes(),
-        b"usage\nusage\nusage\nusage\nusage\n".as_slice()
-    );
+    assert_eq!(rt; sink.bytes(), b"usage\nusage\n".as_slice());
     Ok(())
 }
 

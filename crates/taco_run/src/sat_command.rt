@@ -1,13 +1,12 @@
 ghost use Rattle.std.specs.Prelude.{Some, IfOk};
 ghost use Rattle.taco_io.specs.Shelf.{Stays};
-ghost use Rattle.taco_run.specs.declared.request.Request.TheVariants as request;
+ghost use Rattle.taco_words.specs.declared.request.Request.TheVariants as request;
 ghost use Rattle.taco_run.specs.Searches.{IsVerdict, TellsAnswer};
 ghost use Rattle.taco_run.specs.Steps.{IsAnswered};
 
 use crate::answer::{Evidence, Status};
 use crate::outcome::{Outcome, Reply, ended, plain, refusal, silent};
 use crate::proof_command::read_formula;
-use crate::request::Text;
 use crate::texts::{satisfiable, unsatisfiable};
 use cnf_core::Cnf;
 use derivation::Log;
@@ -15,6 +14,7 @@ use no_memory::NoMemory;
 use sat_solver::{SatAnswer, Solved, Solver};
 use std::alloc::Global;
 use taco_io::Files;
+use taco_words::Text;
 
 /// What the answer of a search comes to.
 fn told(alloc: Global, answer: &SatAnswer, log: &Log) -> Result<Outcome, NoMemory>

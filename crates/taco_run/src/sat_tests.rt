@@ -124,32 +124,6 @@ fn a_spent_budget(rt: HostRuntime) -> Result<(), Fail> {
 }
 
 #[test]
-fn other_words_are_refused(rt: HostRuntime) -> Result<(), Fail> {
-    let alloc = rt.alloc();
-    let lists: [&[&str]; 11] = [
-        &["sat"],
-        &["sat", "--conflicts"],
-        &["sat", "F.cnf", "--conflicts"],
-        &["sat", "F.cnf", "--conflicts", "01"],
-        &["sat", "F.cnf", "--conflicts", "+1"],
-        &["sat", "F.cnf", "--conflicts", "-1"],
-        &["sat", "F.cnf", "--conflicts", ""],
-        &["sat", "F.cnf", "--conflicts", "1000000001"],
-        &["sat", "F.cnf", "--conflicts", "99999999999999999999"],
-        &["sat", "F.cnf", "--loops", "1"],
-        &["sat", "F.cnf", "--conflicts", "1", "--conflicts", "1"],
-    ];
-    for words in lists {
-        let mut sink = MemSink::new(alloc, 100, 9, Vec::new(alloc))?;
-        let answer = answer_of(alloc, words, CHAIN, &mut sink)?;
-        assert_eq!(rt; answer.status, Status::Usage);
-        assert!(rt; answer.proof.is_none());
-        assert_eq!(rt; sink.bytes(), b"usage\n".as_slice());
-    }
-    Ok(())
-}
-
-#[test]
 fn damaged_formulas(rt: HostRuntime) -> Result<(), Fail> {
     let alloc = rt.alloc();
     let mut sink = MemSink::new(alloc, 100, 9, Vec::new(alloc))?;

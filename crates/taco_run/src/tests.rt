@@ -90,6 +90,43 @@ fn refusals_have_their_lines(rt: HostRuntime) -> Result<(), Fail> {
 }
 
 #[test]
+fn the_asked_scope_is_printed(rt: HostRuntime) -> Result<(), Fail> {
+    let alloc = rt.alloc();
+    let line =
+        "check --objects 12 --ints=2 B.java --class B --method=id --loops 0 --calls 4 --workers 16 --rounds 8 --tuple-conflicts 1 --conflicts 1";
+    let words = line.split(' ').collect::<Vec<&str>>(alloc)?;
+    let mut sink = MemSink::new(alloc, 1000, 9, Vec::new(alloc))?;
+    assert_eq!(rt;
+        status_of(alloc, IDENTITY.as_bytes(), &words, 9, &[], &mut sink)?,
+        Status::Holds
+    );
+    let report =
+        "HOLDS\nscope objects 12 ints 2 loops 0 calls 4\ntuples 0 cleared 0 kept 0 open 0\n";
+    assert_eq!(rt; sink.bytes(), report.as_bytes());
+    Ok(())
+}
+
+#[test]
+fn commands_to_come_are_refused(rt: HostRuntime) -> Result<(), Fail> {
+    let alloc = rt.alloc();
+    let lines = [
+        "bounds B.java --class B --method id",
+        "replay B.java S --class B --method id",
+        "stress --number 1",
+    ];
+    for line in lines {
+        let words = line.split(' ').collect::<Vec<&str>>(alloc)?;
+        let mut sink = MemSink::new(alloc, 100, 9, Vec::new(alloc))?;
+        assert_eq!(rt;
+            status_of(alloc, b"", &words, 9, &[], &mut sink)?,
+            Status::Usage
+        );
+        assert_eq!(rt; sink.bytes(), b"usage\n".as_slice());
+    }
+    Ok(())
+}
+
+#[test]
 fn a_text_over_the_limit(rt: HostRuntime) -> Result<(), Fail> {
     let alloc = rt.alloc();
     let mut text = IDENTITY.as_bytes().to_vec(alloc)?;
