@@ -4,7 +4,7 @@ use Rattle.java_lex.specs.declared.token.Token.{Token}
 use Rattle.reading_core.specs.Read.{Read, Got, Bad, Deep, ◌>>=◌, expect}
 use Rattle.reading_core.specs.Deeper.{Level, deeper}
 use Rattle.reading_core.specs.Machine.{Test, Act, Take, Open, Leave, Refuse, Step, On, OnOpen, Stop, Next, Fine, BadAt, DeepAt, act, step, all_ready, run}
-use Rattle.reading_core.specs.Follow.{follow, behind, Allows, inside, act_inside}
+use Rattle.reading_core.specs.Follow.{follow, behind, Allows}
 use Rattle.reading_core.proofs.Runs.{tested, when_true, when_false}
 
 pub follow_bind : {A B : Type 0} (r : Read A) (f : A → List Token → Read B) (go_on : B → List Token → Next) → follow (r >>= f) go_on ≡ follow r (λ a rest. follow (f a rest) go_on)

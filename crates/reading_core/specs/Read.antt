@@ -45,3 +45,40 @@ number_of Quoted = 0
 number_of (Slashed bytes) = 0
 number_of (Symbol bytes) = 0
 number_of End = 0
+
+-- TOKENS OF ONE KIND
+
+abbrev pub is_name_terminal : Terminal → Bool
+is_name_terminal terminal.Name = true
+is_name_terminal x = false
+
+abbrev pub is_open_terminal : Terminal → Bool
+is_open_terminal terminal.OpenParen = true
+is_open_terminal x = false
+
+abbrev pub is_close_terminal : Terminal → Bool
+is_close_terminal terminal.CloseParen = true
+is_close_terminal x = false
+
+abbrev pub is_comma_terminal : Terminal → Bool
+is_comma_terminal terminal.Comma = true
+is_comma_terminal x = false
+
+abbrev pub is_semicolon_terminal : Terminal → Bool
+is_semicolon_terminal terminal.Semicolon = true
+is_semicolon_terminal x = false
+
+abbrev pub is_name : Bool → Token → Bool
+is_name side t = is_name_terminal (at_side side t)
+
+abbrev pub is_open : Bool → Token → Bool
+is_open side t = is_open_terminal (at_side side t)
+
+abbrev pub is_close : Bool → Token → Bool
+is_close side t = is_close_terminal (at_side side t)
+
+abbrev pub is_comma : Bool → Token → Bool
+is_comma side t = is_comma_terminal (at_side side t)
+
+abbrev pub is_semicolon : Bool → Token → Bool
+is_semicolon side t = is_semicolon_terminal (at_side side t)
