@@ -1,3 +1,5 @@
 pub mod ReadLaws
 pub mod Runs
 pub mod Follows
+pub mod Ends
+pub mod Faults

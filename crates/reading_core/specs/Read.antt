@@ -22,6 +22,12 @@ abbrev pub ◌>>=◌ : {A B : Type 0} → Read A → (A → List Token → Read 
 ◌>>=◌ (Bad rest) next = Bad rest
 ◌>>=◌ (Deep rest) next = Deep rest
 
+-- a fact of what was read
+abbrev pub OnGot : {A : Type 0} → (A → List Token → Type 0) → Read A → Type 0
+OnGot P (Got a rest) = P a rest
+OnGot P (Bad rest) = Unit {0}
+OnGot P (Deep rest) = Unit {0}
+
 -- what a token is to a part whose tokens stand in annotations (true) or outside; the others stand in none
 abbrev pub on : Bool → Letter → Terminal
 on false (false, x) = x
