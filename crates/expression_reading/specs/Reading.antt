@@ -11,7 +11,7 @@ use Rattle.java_tree.specs.Trees.{Expr, num, flag, null, this, outcome, make, na
 use Rattle.java_tree.specs.Phrases.{ident_of, text_of}
 use Rattle.java_tree.specs.Expressions.{place}
 use Rattle.reading_core.specs.Read.{Read, Got, Bad, ◌>>=◌, at_side, expect, number_of, is_name, is_comma, is_semicolon, is_close}
-use Rattle.reading_core.specs.Deeper.{Level, deeper, bracket}
+use Rattle.reading_core.specs.Deeper.{Level, deeper, enclosed, bracket}
 use Rattle.reading_core.specs.Loops.{repeat}
 use Rattle.expression_reading.specs.Operators.{Link, Ends, Left, Right, link, top}
 
@@ -83,14 +83,14 @@ arguments_in b ts =
     ]
 
 -- [ Args ] { "." Step }, behind a name: what it is without arguments, and with them
+abbrev pub called_by : Terminal → Option (Level Below) → Expr → (Exprs → Expr) → Token → List Token → Read Expr
+called_by terminal.OpenParen level plain with_ t ts = enclosed false level t ts arguments_in >>= (λ es rest. steps_in false level (with_ es) rest)
+called_by x level plain with_ t ts = steps_in false level plain (t ∷ ts)
+
 abbrev pub called_in : Bool → Option (Level Below) → Expr → (Exprs → Expr) → List Token → Read Expr
 called_in true level plain with_ ts = steps_in true level plain ts
 called_in false level plain with_ [] = Got plain []
-called_in false level plain with_ (t ∷ ts) = by (at_side false t)
-  where
-    by : Terminal → Read Expr
-    by terminal.OpenParen = bracket false level (t ∷ ts) arguments_in >>= (λ es rest. steps_in false level (with_ es) rest)
-    by x = steps_in false level plain (t ∷ ts)
+called_in false level plain with_ (t ∷ ts) = called_by (at_side false t) level plain with_ t ts
 
 -- Step { "." Step }, behind a `.`
 abbrev pub step_in : Bool → Option (Level Below) → Expr → List Token → Read Expr
@@ -128,6 +128,16 @@ question_in level at r (t ∷ ts) =
       ]
     ]
 
+-- [ ";" JExpr ] ")", behind a quantifier's first part
+abbrev pub second_by : Terminal → Below → ℕ → Bool → Ident → Ident → Expr → Token → List Token → Read Expr
+second_by terminal.Semicolon b at all kind i e t ts = b.operand (top true) ts >>= (λ body rest. expect (is_close true) rest >>= (λ _ rest'. Got (quant_in at all kind i e body) rest'))
+second_by terminal.CloseParen b at all kind i e t ts = Got (quant at all kind i e) ts
+second_by x b at all kind i e t ts = Bad (t ∷ ts)
+
+abbrev pub second_in : Below → ℕ → Bool → Ident → Ident → Expr → List Token → Read Expr
+second_in b at all kind i e [] = Bad []
+second_in b at all kind i e (t ∷ ts) = second_by (at_side true t) b at all kind i e t ts
+
 -- JName JName ";" JExpr [ ";" JExpr ] ")", behind the quantifier
 abbrev pub quantified_in : Below → ℕ → Bool → List Token → Read Expr
 quantified_in b at all ts =
@@ -135,18 +145,7 @@ quantified_in b at all ts =
     >>= (λ kind rest. expect (is_name true) rest
     >>= (λ i rest. expect (is_semicolon true) rest
     >>= (λ _ rest. b.operand (top true) rest
-    >>= (λ e rest. second (ident_of kind) (ident_of i) e rest))))
-  where
-    second : Ident → Ident → Expr → List Token → Read Expr
-    second kind i e rest =
-        elim (first_is (is_semicolon true) rest) [
-          | true ↦
-              expect (is_semicolon true) rest
-              >>= (λ _ rest. b.operand (top true) rest
-              >>= (λ body rest. expect (is_close true) rest
-              >>= (λ _ rest. Got (quant_in at all kind i e body) rest)))
-          | false ↦ expect (is_close true) rest >>= (λ _ rest. Got (quant at all kind i e) rest)
-        ]
+    >>= (λ e rest. second_in b at all (ident_of kind) (ident_of i) e rest))))
 
 -- OPERANDS
 

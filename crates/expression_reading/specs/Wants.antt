@@ -5,7 +5,7 @@ use Rattle.java_lex.specs.declared.spelling.Terminal.TheVariants as terminal
 use Rattle.java_lex.specs.declared.token.Token.{Token}
 use Rattle.java_lex.specs.declared.words.TheConstants.{HAS, INT_SIZE}
 use Rattle.reading_core.specs.Read.{at_side, is_name, is_open, is_close, is_comma, is_semicolon}
-use Rattle.reading_core.specs.Machine.{Act, Take, Open, Leave, Refuse, then_}
+use Rattle.reading_core.specs.Machine.{Act, Take, Open, Leave, Refuse, then_, takes_if, opens_if}
 use Rattle.expression_reading.specs.Operators.{Link, Ends, Left, Right, link, top}
 use Rattle.expression_reading.specs.Reading.{is_word, is_dot, is_plus}
 
@@ -54,14 +54,6 @@ is_ready w = false
 
 -- inn: how what is awaited here lies in the whole machine
 module _ {W : Type 0} (inn : Want → W) where
-  abbrev pub takes_if : Bool → List W → Act W
-  takes_if true ws = Take ws
-  takes_if false ws = Refuse
-
-  abbrev pub opens_if : Bool → ℕ → List W → Act W
-  opens_if true l ws = Open l ws
-  opens_if false l ws = Refuse
-
   abbrev pub after_name : Bool → ℕ → W
   after_name false l = inn (Called l)
   after_name true l = inn (Steps true l)

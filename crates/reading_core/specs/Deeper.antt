@@ -13,11 +13,14 @@ abbrev pub deeper : {R A : Type 0} → Option (Level R) → List Token → List 
 deeper None ts rest go = Deep ts
 deeper (Some level) ts rest go = elim (level.may rest) [ true ↦ go level.readers | false ↦ Deep ts ]
 
--- `(`, what is read one level deeper, `)`
+-- what is read one level deeper, and `)`, behind the `(` that is t
+abbrev pub enclosed : {R A : Type 0} → Bool → Option (Level R) → Token → List Token → (R → List Token → Read A) → Read A
+enclosed side level t ts go = deeper level (t ∷ ts) ts (λ r. go r ts >>= (λ a rest. expect (is_close side) rest >>= (λ _ rest'. Got a rest')))
+
+-- the same with its `(`
 abbrev pub bracket : {R A : Type 0} → Bool → Option (Level R) → List Token → (R → List Token → Read A) → Read A
 bracket side level [] go = Bad []
-bracket side level (t ∷ ts) go =
-    elim (is_open side t) [ true ↦ deeper level (t ∷ ts) ts (λ r. go r ts >>= (λ a rest. expect (is_close side) rest >>= (λ _ rest'. Got a rest'))) | false ↦ Bad (t ∷ ts) ]
+bracket side level (t ∷ ts) go = elim (is_open side t) [ true ↦ enclosed side level t ts go | false ↦ Bad (t ∷ ts) ]
 
 -- every level may be opened
 abbrev pub always : ℕ → List Token → Bool
