@@ -5,7 +5,8 @@ use Rattle.java_lex.specs.declared.spelling.Terminal.TheVariants as terminal
 use Rattle.java_lex.specs.declared.token.Token.{Token}
 use Rattle.java_lex.specs.declared.words.TheConstants.{HAS, INT_SIZE}
 use Rattle.java_tree.specs.declared.names.Ident.{Ident}
-use Rattle.java_tree.specs.Trees.{Expr, Exprs, none, also}
+use Rattle.java_tree.specs.Trees.{Expr, Exprs, none, also, quant, quant_in, has, size}
+use Rattle.java_tree.specs.Phrases.{ident_of}
 use Rattle.reading_core.specs.Read.{Read, Got, Bad, Deep, OnGot, ◌>>=◌, at_side, expect, is_name, is_open, is_close, is_comma, is_semicolon, is_close_terminal, is_comma_terminal, is_semicolon_terminal}
 use Rattle.reading_core.specs.Deeper.{Level, deeper, enclosed, bracket}
 use Rattle.reading_core.specs.Loops.{repeat}
@@ -186,3 +187,215 @@ module _ {W : Type 0} (react : W → Token → Act W) (ready : W → Bool) (may 
   called_sim true l level allows plain with_ ts ws = steps_sim true l level allows plain ts ws
   called_sim false l level allows plain with_ [] ws = well (Called l) refl ws
   called_sim false l level allows plain with_ (t ∷ ts) ws = called_sim_by l level allows (at_side false t) plain with_ t ts ws refl ∙ first (Called l) t ts ws
+
+  -- the name behind a `.`
+  pub step_sim : (side : Bool) (l : ℕ) (level : Option (Level Below)) → Allows (IsSim side (suc l)) may (suc l) level → (e : Expr) (ts : List Token) (ws : List W)
+      → follow (step_in side level e ts) (on_with ws) ≡ run react ready may ts (inn (StepWant side l) ∷ ws)
+  step_sim side l level allows e ts ws =
+      follow_then (expect (is_name side) ts) _ (on_with ws) (on_with (after_name inn side l ∷ ws)) (λ i rest. called_sim side l level allows _ _ rest ws)
+      ∙ need (is_name side) (StepWant side l) (after_name inn side l ∷ []) refl (λ t. refl) ts ws
+
+  -- BRACKETS
+
+  closing : (side : Bool) (ts : List Token) (ws : List W) → follow (expect (is_close side) ts) (on_with ws) ≡ run react ready may ts (inn (Close side) ∷ ws)
+  closing side ts ws = need (is_close side) (Close side) [] refl (λ t. refl) ts ws
+
+  -- "(" JExpr ")"
+  bracketed_sim : (l : ℕ) (level : Option (Level Below)) → Allows (IsSim true (suc l)) may (suc l) level → (ts : List Token) (ws : List W)
+      → follow (bracket true level ts (λ b rest. b.operand (top true) rest)) (on_with ws) ≡ run react ready may ts (inn (Bracket l) ∷ ws)
+  bracketed_sim l level allows ts ws =
+      bracket_sim react ready may true (IsSim true (suc l)) level (suc l) (inn (Bracket l)) (inn (Operand true (top true) (suc l)) ∷ inn (Close true) ∷ []) ws _ (on_with ws) allows (ready_so (Bracket l))
+      (λ t. reacts_so (Bracket l) t)
+      (λ b us good. follow_same (b.operand (top true) us) _ (on_with (inn (Close true) ∷ ws)) (λ e rest. closing true rest ws) ∙ good.operand (top true) us (inn (Close true) ∷ ws)) ts
+
+  -- "(" ")"
+  empty_sim : (side : Bool) (w : Want) (l : ℕ) (level : Option (Level Below)) → Allows (IsSim side (suc l)) may (suc l) level → is_ready w ≡ false
+      → ((t : Token) → reacts inn w t ≡ opens_if (is_open side t) (suc l) (inn (Close side) ∷ [])) → (ts : List Token) (ws : List W)
+      → follow (bracket {A = Unit {0}} side level ts (λ b rest. Got (tt {0}) rest)) (on_with ws) ≡ run react ready may ts (inn w ∷ ws)
+  empty_sim side w l level allows not so ts ws =
+      bracket_sim react ready may side (IsSim side (suc l)) level (suc l) (inn w) (inn (Close side) ∷ []) ws _ (on_with ws) allows (ready_so w ∙ not) (λ t. reacts_so w t ∙ so t) (λ b us good. closing side us ws) ts
+
+  paren_sim : (side : Bool) (l : ℕ) (level : Option (Level Below)) → Allows (IsSim side (suc l)) may (suc l) level → (at : ℕ) (b : Below) → IsSim side (suc l) b → (ts : List Token) (ws : List W)
+      → follow (paren_in side level at b ts) (on_with ws) ≡ run react ready may ts (inn (Operand side (top side) (suc l)) ∷ inn (Close side) ∷ inn (Steps side l) ∷ ws)
+  paren_sim side l level allows at b good ts ws =
+      follow_then (b.operand (top side) ts) _ (on_with ws) (on_with (inn (Close side) ∷ inn (Steps side l) ∷ ws))
+      (λ e rest. follow_then (expect (is_close side) rest) _ (on_with ws) (on_with (inn (Steps side l) ∷ ws)) (λ _ rest'. steps_sim side l level allows _ rest' ws) ∙ closing side rest (inn (Steps side l) ∷ ws))
+      ∙ good.operand (top side) ts (inn (Close side) ∷ inn (Steps side l) ∷ ws)
+
+  -- QUANTIFIERS
+
+  second_sim_by : (l : ℕ) (b : Below) → IsSim true l b → (x : Terminal) (at : ℕ) (all : Bool) (kind i : Ident) (e : Expr) (t : Token) (ts : List Token) (ws : List W)
+      → follow (second_by x b at all kind i e t ts) (on_with ws) ≡ behind react ready may t ts (act (second_on inn l x) ws (step react ready t ws))
+  second_sim_by l b good terminal.Semicolon at all kind i e t ts ws =
+      follow_then (b.operand (top true) ts) _ (on_with ws) (on_with (inn (Close true) ∷ ws)) (λ body rest. follow_bind (expect (is_close true) rest) _ (on_with ws) ∙ closing true rest ws)
+      ∙ good.operand (top true) ts (inn (Close true) ∷ ws)
+  second_sim_by l b good terminal.CloseParen at all kind i e t ts ws = refl
+  second_sim_by l b good x at all kind i e t ts ws = refl
+
+  second_sim : (l : ℕ) (b : Below) → IsSim true l b → (at : ℕ) (all : Bool) (kind i : Ident) (e : Expr) (ts : List Token) (ws : List W)
+      → follow (second_in b at all kind i e ts) (on_with ws) ≡ run react ready may ts (inn (Second l) ∷ ws)
+  second_sim l b good at all kind i e [] ws = early (Second l) refl ws
+  second_sim l b good at all kind i e (t ∷ ts) ws = second_sim_by l b good (at_side true t) at all kind i e t ts ws ∙ first (Second l) t ts ws
+
+  naming : (ts : List Token) (ws : List W) → follow (expect (is_name true) ts) (on_with ws) ≡ run react ready may ts (inn (Name true) ∷ ws)
+  naming ts ws = need (is_name true) (Name true) [] refl (λ t. refl) ts ws
+
+  parting : (ts : List Token) (ws : List W) → follow (expect (is_comma true) ts) (on_with ws) ≡ run react ready may ts (inn Comma ∷ ws)
+  parting ts ws = need (is_comma true) Comma [] refl (λ t. refl) ts ws
+
+  quantified_sim : (l : ℕ) (b : Below) → IsSim true (suc l) b → (at : ℕ) (all : Bool) (ts : List Token) (ws : List W)
+      → follow (quantified_in b at all ts) (on_with ws)
+      ≡ run react ready may ts (inn (Name true) ∷ inn (Name true) ∷ inn Semicolon ∷ inn (Operand true (top true) (suc l)) ∷ inn (Second (suc l)) ∷ ws)
+  quantified_sim l b good at all ts ws =
+      follow_then (expect (is_name true) ts) _ (on_with ws) (on_with (inn (Name true) ∷ inn Semicolon ∷ body)) (λ kind rest.
+      follow_then (expect (is_name true) rest) _ (on_with ws) (on_with (inn Semicolon ∷ body)) (λ i rest.
+      follow_then (expect (is_semicolon true) rest) _ (on_with ws) (on_with body) (λ _ rest.
+      follow_then (b.operand (top true) rest) _ (on_with ws) (on_with (inn (Second (suc l)) ∷ ws)) (λ e rest. second_sim (suc l) b good at all _ _ e rest ws)
+      ∙ good.operand (top true) rest (inn (Second (suc l)) ∷ ws))
+      ∙ need (is_semicolon true) Semicolon [] refl (λ t. refl) rest body)
+      ∙ naming rest (inn Semicolon ∷ body))
+      ∙ naming ts (inn (Name true) ∷ inn Semicolon ∷ body)
+    where
+      body : List W
+      body = inn (Operand true (top true) (suc l)) ∷ inn (Second (suc l)) ∷ ws
+
+  group_sim_by : (l : ℕ) (level : Option (Level Below)) → Allows (IsSim true (suc l)) may (suc l) level → (b : Below) → IsSim true (suc l) b → (x : Terminal) (at : ℕ) (t : Token) (ts : List Token) (ws : List W)
+      → at_side true t ≡ x → follow (group_by x level at b t ts) (on_with ws) ≡ behind react ready may t ts (act (group_on inn l x) ws (step react ready t ws))
+  group_sim_by l level allows b good terminal.Forall at t ts ws is = quantified_sim l b good at true ts ws
+  group_sim_by l level allows b good terminal.Exists at t ts ws is = quantified_sim l b good at false ts ws
+  group_sim_by l level allows b good x at t ts ws is =
+      paren_sim true l level allows at b good (t ∷ ts) ws ∙ operand_then true (top true) (suc l) (inn (Close true) ∷ inn (Steps true l) ∷ []) t ts ws
+      ∙ ap (λ y. behind react ready may t ts (act (then_ (starts inn true (top true) (suc l) y) (inn (Close true) ∷ inn (Steps true l) ∷ [])) ws (step react ready t ws))) is
+
+  group_sim : (side : Bool) (l : ℕ) (level : Option (Level Below)) → Allows (IsSim side (suc l)) may (suc l) level → (b : Below) → IsSim side (suc l) b → (at : ℕ) (ts : List Token) (ws : List W)
+      → follow (group_in side level at b ts) (on_with ws) ≡ run react ready may ts (group_starts inn side l ++ ws)
+  group_sim false l level allows b good at ts ws = paren_sim false l level allows at b good ts ws
+  group_sim true l level allows b good at [] ws = early (Group l) refl ws
+  group_sim true l level allows b good at (t ∷ ts) ws = group_sim_by l level allows b good (at_side true t) at t ts ws refl ∙ first (Group l) t ts ws
+
+  -- REACHES
+
+  field_short : Short (first_is (is_plus true)) field_in
+  field_short ts = on_bind (IsFirst (is_plus true) ts) _ (expect (is_plus true) ts) _ (on_expect (is_plus true) ts) (λ t rest is.
+      on_bind (IsFirst (is_name true) rest) _ (expect (is_name true) rest) _ (on_expect (is_name true) rest) (λ u rest' is'.
+      let one : ts ≡ t ∷ rest = is.1 in let two : rest ≡ u ∷ rest' = is'.1 in omega (arith, ap length one, ap length two)))
+
+  fields_end_by : (l : ℕ) (x : Terminal) (t : Token) (ts : List Token) (ws : List W) → is_plus_terminal x ≡ false
+      → follow (elim (is_close_terminal x) as (λ _. Read Token) [ true ↦ Got t ts | false ↦ Bad (t ∷ ts) ]) (on_with (inn (Dot l) ∷ ws))
+      ≡ behind react ready may t ts (act (fields_on inn l x) ws (step react ready t ws))
+  fields_end_by l terminal.Plus t ts ws not = absurd (cc)
+  fields_end_by l terminal.CloseParen t ts ws not = refl
+  fields_end_by l x t ts ws not = refl
+
+  fields_end : (l : ℕ) (ws : List W) (ts : List Token) → first_is (is_plus true) ts ≡ false → follow (expect (is_close true) ts) (on_with (inn (Dot l) ∷ ws)) ≡ run react ready may ts (inn (Fields l) ∷ ws)
+  fields_end l ws [] not = early (Fields l) refl ws
+  fields_end l ws (t ∷ ts) not = fields_end_by l (at_side true t) t ts ws not ∙ first (Fields l) t ts ws
+
+  fields_turn_by : (l : ℕ) (x : Terminal) (t : Token) (ts : List Token) (ws : List W) → is_plus_terminal x ≡ true
+      → follow (elim (is_plus_terminal x) as (λ _. Read Token) [ true ↦ Got t ts | false ↦ Bad (t ∷ ts) ] >>= (λ _ rest. expect (is_name true) rest >>= (λ i rest'. Got (ident_of i) rest'))) (on_with (inn (Fields l) ∷ ws))
+      ≡ behind react ready may t ts (act (fields_on inn l x) ws (step react ready t ws))
+  fields_turn_by l terminal.Plus t ts ws is = follow_bind (expect (is_name true) ts) _ (on_with (inn (Fields l) ∷ ws)) ∙ naming ts (inn (Fields l) ∷ ws)
+  fields_turn_by l x t ts ws is = absurd (cc)
+
+  fields_turn : (l : ℕ) (ws : List W) (ts : List Token) → first_is (is_plus true) ts ≡ true → follow (field_in ts) (on_with (inn (Fields l) ∷ ws)) ≡ run react ready may ts (inn (Fields l) ∷ ws)
+  fields_turn l ws [] is = absurd (cc)
+  fields_turn l ws (t ∷ ts) is = fields_turn_by l (at_side true t) t ts ws is ∙ first (Fields l) t ts ws
+
+  -- { "+" JName } ")", and then the question
+  fields_sim : (l : ℕ) (ts : List Token) (ws : List W)
+      → follow (repeat (first_is (is_plus true)) field_in ts) (λ _ rest. follow (expect (is_close true) rest) (on_with (inn (Dot l) ∷ ws))) ≡ run react ready may ts (inn (Fields l) ∷ ws)
+  fields_sim l ts ws =
+      repeat_sim (first_is (is_plus true)) field_in (λ us. run react ready may us (inn (Fields l) ∷ ws)) (λ us. follow (expect (is_close true) us) (on_with (inn (Dot l) ∷ ws))) field_short (fields_end l ws) (fields_turn l ws) ts
+
+  reach_sim : (l : ℕ) (level : Option (Level Below)) → Allows (IsSim true (suc l)) may (suc l) level → (ts : List Token) (ws : List W)
+      → follow (bracket true level ts reach_in) (on_with (inn (Dot l) ∷ ws)) ≡ run react ready may ts (inn (ReachWant l) ∷ ws)
+  reach_sim l level allows ts ws =
+      bracket_sim react ready may true (IsSim true (suc l)) level (suc l) (inn (ReachWant l))
+      (inn (Operand true (top true) (suc l)) ∷ inn Comma ∷ inn (Name true) ∷ inn Comma ∷ inn (Name true) ∷ inn (Fields l) ∷ []) ws reach_in (on_with (inn (Dot l) ∷ ws)) allows (ready_so (ReachWant l))
+      (λ t. reacts_so (ReachWant l) t) inside ts
+    where
+      end : {A : Type 0} → A → List Token → Next
+      end a rest = follow (expect (is_close true) rest) (on_with (inn (Dot l) ∷ ws))
+
+      inside : (b : Below) (us : List Token) → IsSim true (suc l) b
+          → follow (reach_in b us) (λ _ rest. follow (expect (is_close true) rest) (on_with (inn (Dot l) ∷ ws)))
+          ≡ run react ready may us (inn (Operand true (top true) (suc l)) ∷ inn Comma ∷ inn (Name true) ∷ inn Comma ∷ inn (Name true) ∷ inn (Fields l) ∷ ws)
+      inside b us good =
+          follow_then (b.operand (top true) us) _ _ (on_with (inn Comma ∷ inn (Name true) ∷ inn Comma ∷ inn (Name true) ∷ inn (Fields l) ∷ ws)) (λ root rest.
+          follow_then (expect (is_comma true) rest) _ _ (on_with (inn (Name true) ∷ inn Comma ∷ inn (Name true) ∷ inn (Fields l) ∷ ws)) (λ _ rest.
+          follow_then (expect (is_name true) rest) _ _ (on_with (inn Comma ∷ inn (Name true) ∷ inn (Fields l) ∷ ws)) (λ kind rest.
+          follow_then (expect (is_comma true) rest) _ _ (on_with (inn (Name true) ∷ inn (Fields l) ∷ ws)) (λ _ rest.
+          follow_then (expect (is_name true) rest) _ _ (on_with (inn (Fields l) ∷ ws)) (λ i rest.
+          follow_bind (repeat (first_is (is_plus true)) field_in rest) _ _ ∙ fields_sim l rest ws)
+          ∙ naming rest (inn (Fields l) ∷ ws))
+          ∙ parting rest (inn (Name true) ∷ inn (Fields l) ∷ ws))
+          ∙ naming rest (inn Comma ∷ inn (Name true) ∷ inn (Fields l) ∷ ws))
+          ∙ parting rest (inn (Name true) ∷ inn Comma ∷ inn (Name true) ∷ inn (Fields l) ∷ ws))
+          ∙ good.operand (top true) us (inn Comma ∷ inn (Name true) ∷ inn Comma ∷ inn (Name true) ∷ inn (Fields l) ∷ ws)
+
+  question_sim_by : (l : ℕ) (level : Option (Level Below)) → Allows (IsSim true (suc l)) may (suc l) level → (at : ℕ) (r : Reach) (t : Token) (ts : List Token) (ws : List W) (is_has is_size : Bool)
+      → follow (elim is_has as (λ _. Read Expr) [
+          true ↦ bracket true level ts (λ b rest. b.operand (top true) rest) >>= (λ e rest. Got (has at r.root r.kind r.fields e) rest)
+        | false ↦ elim is_size as (λ _. Read Expr) [ true ↦ bracket true level ts (λ b rest. Got (tt {0}) rest) >>= (λ _ rest. Got (size at r.root r.kind r.fields) rest) | false ↦ Bad (t ∷ ts) ] ]) (on_with ws)
+      ≡ behind react ready may t ts (act (elim is_has as (λ _. Act W) [
+          true ↦ Take (inn (Bracket l) ∷ [])
+        | false ↦ elim is_size as (λ _. Act W) [ true ↦ Take (inn (Empty l) ∷ []) | false ↦ Refuse ] ]) ws (step react ready t ws))
+  question_sim_by l level allows at r t ts ws true is_size = follow_bind (bracket true level ts (λ b rest. b.operand (top true) rest)) _ (on_with ws) ∙ bracketed_sim l level allows ts ws
+  question_sim_by l level allows at r t ts ws false true =
+      follow_bind (bracket true level ts (λ b rest. Got (tt {0}) rest)) _ (on_with ws) ∙ empty_sim true (Empty l) l level allows refl (λ t. refl) ts ws
+  question_sim_by l level allows at r t ts ws false false = refl
+
+  question_sim : (l : ℕ) (level : Option (Level Below)) → Allows (IsSim true (suc l)) may (suc l) level → (at : ℕ) (r : Reach) (ts : List Token) (ws : List W)
+      → follow (question_in level at r ts) (on_with ws) ≡ run react ready may ts (inn (Question l) ∷ ws)
+  question_sim l level allows at r [] ws = early (Question l) refl ws
+  question_sim l level allows at r (t ∷ ts) ws = question_sim_by l level allows at r t ts ws (is_word HAS.now t) (is_word INT_SIZE.now t) ∙ first (Question l) t ts ws
+
+  -- OPERANDS
+
+  unary_sim_by : (side : Bool) (l : ℕ) (level : Option (Level Below)) → Allows (IsSim side (suc l)) may (suc l) level → (x : Terminal) (t : Token) (ts : List Token) (ws : List W)
+      → follow (unary_by side level x t ts) (on_with ws) ≡ behind react ready may t ts (act (unary_starts inn side l x) ws (step react ready t ws))
+  unary_sim_by side l level allows terminal.Not t ts ws =
+      deeper_sim react ready may (IsSim side (suc l)) level t ts (suc l) (inn (Operand side 0 (suc l)) ∷ ws) _ (on_with ws) allows (λ b good. follow_bind (b.operand 0 ts) _ (on_with ws) ∙ good.operand 0 ts ws)
+  unary_sim_by side l level allows terminal.Minus t ts ws =
+      deeper_sim react ready may (IsSim side (suc l)) level t ts (suc l) (inn (Operand side 0 (suc l)) ∷ ws) _ (on_with ws) allows (λ b good. follow_bind (b.operand 0 ts) _ (on_with ws) ∙ good.operand 0 ts ws)
+  unary_sim_by side l level allows terminal.Number t ts ws = refl
+  unary_sim_by side l level allows terminal.True t ts ws = refl
+  unary_sim_by side l level allows terminal.False t ts ws = refl
+  unary_sim_by side l level allows terminal.Null t ts ws = refl
+  unary_sim_by side l level allows terminal.This t ts ws = steps_sim side l level allows _ ts ws
+  unary_sim_by side l level allows terminal.Name t ts ws = called_sim side l level allows _ _ ts ws
+  unary_sim_by side l level allows terminal.OpenParen t ts ws =
+      deeper_sim react ready may (IsSim side (suc l)) level t ts (suc l) (group_starts inn side l ++ ws) _ (on_with ws) allows (λ b good. group_sim side l level allows b good t.from ts ws)
+  unary_sim_by false l level allows terminal.New t ts ws =
+      follow_then (expect (is_name false) ts) _ (on_with ws) (on_with (inn (NewOpen l) ∷ inn (Steps false l) ∷ ws)) (λ i rest.
+      follow_then (bracket false level rest (λ b rest. Got (tt {0}) rest)) _ (on_with ws) (on_with (inn (Steps false l) ∷ ws)) (λ _ rest. steps_sim false l level allows _ rest ws)
+      ∙ empty_sim false (NewOpen l) l level allows refl (λ t. refl) rest (inn (Steps false l) ∷ ws))
+      ∙ need (is_name false) (New l) (inn (NewOpen l) ∷ []) refl (λ t. refl) ts (inn (Steps false l) ∷ ws)
+  unary_sim_by true l level allows terminal.ResultValue t ts ws = steps_sim true l level allows _ ts ws
+  unary_sim_by true l level allows terminal.Old t ts ws =
+      follow_then (bracket true level ts (λ b rest. b.operand (top true) rest)) _ (on_with ws) (on_with (inn (Steps true l) ∷ ws)) (λ e rest. steps_sim true l level allows _ rest ws)
+      ∙ bracketed_sim l level allows ts (inn (Steps true l) ∷ ws)
+  unary_sim_by true l level allows terminal.Reach t ts ws =
+      follow_then (bracket true level ts reach_in) _ (on_with ws) (on_with (inn (Dot l) ∷ ws)) (λ r rest.
+      follow_then (expect (is_dot true) rest) _ (on_with ws) (on_with (inn (Question l) ∷ ws)) (λ _ rest. question_sim l level allows _ r rest ws)
+      ∙ need (is_dot true) (Dot l) (inn (Question l) ∷ []) refl (λ t. refl) rest ws)
+      ∙ reach_sim l level allows ts ws
+  unary_sim_by side l level allows x t ts ws = refl
+
+  unary_sim : (side : Bool) (l : ℕ) (level : Option (Level Below)) → Allows (IsSim side (suc l)) may (suc l) level → (ts : List Token) (ws : List W)
+      → follow (unary_in side level ts) (on_with ws) ≡ run react ready may ts (inn (Operand side 0 l) ∷ ws)
+  unary_sim side l level allows [] ws = early (Operand side 0 l) refl ws
+  unary_sim side l level allows (t ∷ ts) ws = unary_sim_by side l level allows (at_side side t) t ts ws ∙ first (Operand side 0 l) t ts ws
+
+  -- a chain may as well be awaited behind its first operand
+  operand_more : (side : Bool) (n l : ℕ) (ts : List Token) (ws : List W)
+      → run react ready may ts (inn (Operand side n l) ∷ inn (Chain side n l) ∷ ws) ≡ run react ready may ts (inn (Operand side (suc n) l) ∷ ws)
+  operand_more side n l [] ws = sym (early (Operand side n l) refl (inn (Chain side n l) ∷ ws)) ∙ early (Operand side (suc n) l) refl ws
+  operand_more side n l (t ∷ ts) ws = operand_then side n l (inn (Chain side n l) ∷ []) t ts ws ∙ first (Operand side (suc n) l) t ts ws
+
+  pub operand_sim : (side : Bool) (l : ℕ) (level : Option (Level Below)) → Allows (IsSim side (suc l)) may (suc l) level → (n : ℕ) (ts : List Token) (ws : List W)
+      → follow (operand_in side level n ts) (on_with ws) ≡ run react ready may ts (inn (Operand side n l) ∷ ws)
+  operand_sim side l level allows zero ts ws = unary_sim side l level allows ts ws
+  operand_sim side l level allows (suc n) ts ws =
+      follow_then (operand_in side level n ts) _ (on_with ws) (on_with (inn (Chain side n l) ∷ ws)) (λ e rest. chain_sim side l level allows n e rest ws)
+      ∙ operand_sim side l level allows n ts (inn (Chain side n l) ∷ ws) ∙ operand_more side n l ts ws
