@@ -23,7 +23,7 @@ calm_rest calm w ws is = by (calm w) is
     by true is = is
     by false is = cc
 
-calm_append : {W : Type 0} (calm : W → Bool) (vs ws : List W) → all_calm calm vs ≡ true → all_calm calm ws ≡ true → all_calm calm (vs ++ ws) ≡ true
+pub calm_append : {W : Type 0} (calm : W → Bool) (vs ws : List W) → all_calm calm vs ≡ true → all_calm calm ws ≡ true → all_calm calm (vs ++ ws) ≡ true
 calm_append calm [] ws v w = w
 calm_append calm (x ∷ vs) ws v w = when_true (calm x) _ _ (calm_head calm x vs v) ∙ calm_append calm vs ws (calm_rest calm x vs v) w
 
@@ -31,11 +31,11 @@ calm_tail : {W : Type 0} (calm : W → Bool) (ws : List W) → all_calm calm ws 
 calm_tail calm [] is = refl
 calm_tail calm (w ∷ ws) is = calm_rest calm w ws is
 
-tail_append : {W : Type 0} (calm : W → Bool) (vs ws : List W) → tail_calm calm vs ≡ true → all_calm calm ws ≡ true → tail_calm calm (vs ++ ws) ≡ true
+pub tail_append : {W : Type 0} (calm : W → Bool) (vs ws : List W) → tail_calm calm vs ≡ true → all_calm calm ws ≡ true → tail_calm calm (vs ++ ws) ≡ true
 tail_append calm [] ws v w = calm_tail calm ws w
 tail_append calm (x ∷ vs) ws v w = calm_append calm vs ws v w
 
-ranks-append : {W : Type 0} (rank : W → ℕ) (vs ws : List W) → ranks rank (vs ++ ws) ≡ ranks rank vs + ranks rank ws
+pub ranks-append : {W : Type 0} (rank : W → ℕ) (vs ws : List W) → ranks rank (vs ++ ws) ≡ ranks rank vs + ranks rank ws
 ranks-append rank [] ws = omega arith
 ranks-append rank (v ∷ vs) ws = let ih : ranks rank (vs ++ ws) ≡ ranks rank vs + ranks rank ws = ranks-append rank vs ws in omega (arith, ih)
 

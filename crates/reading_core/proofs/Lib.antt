@@ -6,3 +6,4 @@ pub mod Faults
 pub mod Keeps
 pub mod Instance
 pub mod Told
+pub mod Inside
