@@ -7,3 +7,4 @@ pub mod Keeps
 pub mod Instance
 pub mod Told
 pub mod Inside
+pub mod Tokens
