@@ -1,2 +1,4 @@
 pub mod Sim
 pub mod Endings
+pub mod Links
+pub mod Sound

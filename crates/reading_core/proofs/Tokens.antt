@@ -15,7 +15,8 @@ use Rattle.reading_core.specs.Read.{on, at_side, number_of, is_name_terminal, is
 
 -- SIDES
 
-abbrev is_reserved : Terminal → Bool
+-- a terminal that stands on neither side
+abbrev pub is_reserved : Terminal → Bool
 is_reserved terminal.Reserved = true
 is_reserved x = false
 
