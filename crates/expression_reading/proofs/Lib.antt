@@ -2,3 +2,4 @@ pub mod Sim
 pub mod Endings
 pub mod Links
 pub mod Sound
+pub mod Below

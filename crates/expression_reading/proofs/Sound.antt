@@ -2,16 +2,18 @@
 use Rattle.std.proofs.Common.{◌≡◌, ℕ, ◌+◌, ◌<◌, ◌≤◌, ◌==◌, zero, suc, Bool, true, false, bytes_eq, List, [], ◌∷◌, length, refl, sym, ◌∙◌, ap, subst, arith, ◌⊎◌, inl, inr, lit≤}
 use Rattle.std.specs.Prelude.{Option, Some, None}
 use Rattle.std.proofs.lemmas.Bool.{eq-eqb, ne_eqb}
+use Rattle.std.proofs.lemmas.Slice.Eq.{bytes_eq-Decides}
 use Rattle.java_lex.specs.declared.spelling.Terminal.{Terminal}
 use Rattle.java_lex.specs.declared.spelling.Terminal.TheVariants as terminal
 use Rattle.java_lex.specs.declared.token.Token.{Token}
+use Rattle.java_lex.specs.declared.token.TokenKind.TheVariants.{Word, Number}
 use Rattle.java_lex.specs.declared.words.TheConstants.{HAS, INT_SIZE}
 use Rattle.java_tree.specs.declared.expressions.Sign.{Sign}
 use Rattle.java_tree.specs.declared.expressions.Sign.TheVariants as sign
 use Rattle.java_tree.specs.declared.names.Ident.{Ident}
 use Rattle.java_tree.specs.Trees.{Expr, num, flag, null, this, outcome, make, named, call, read, call_on, paren, negation, minus, bin, old, quant, quant_in, has, size, Exprs, none, also}
 use Rattle.java_tree.specs.Phrases.{Phrase, ◌▸◌, letter, ident_of, text_of, one, name, opens, closed, nothing}
-use Rattle.java_tree.specs.Expressions.{phrase, arguments, more_arguments, more_fields, fields_of, bracketed, chained, is_steps, is_chain, left_tier, right_tier, whole, place, tier_of, unary, post}
+use Rattle.java_tree.specs.Expressions.{phrase, arguments, more_arguments, more_fields, fields_of, bracketed, chained, is_steps, is_chain, left_tier, right_tier, whole, place, tier_of, quantifier, unary, post}
 use Rattle.reading_core.specs.Read.{Read, Got, Bad, Deep, OnGot, ◌>>=◌, at_side, expect, is_name, is_close, is_comma, is_semicolon, is_open, number_of}
 use Rattle.reading_core.specs.Deeper.{Level, deeper, enclosed, bracket}
 use Rattle.reading_core.specs.Loops.{repeat}
@@ -293,3 +295,210 @@ module _ (may : Test) where
       called_sound side l level allows (read (place e) e (ident_of t)) (call_on (place e) e (ident_of t)) l0 ts0 rest
       (refl, (m, mid, stepped, (m', mid', dot, (l, ts, opened, (t, (name_letter side t is.0, refl), is.1, refl)))))
       (λ code es rest' args. (code, (refl, (m, mid, stepped, (m', mid', dot, (l, ts, opened, (l, rest, (t, (name_letter side t is.0, refl), is.1, refl), args))))))))
+
+  -- BRACKETS
+
+  -- Expr ")" { "." Step }, behind the `(`
+  paren_sound : (side : Bool) (l : ℕ) (level : Option (Level Below)) → Allows (IsSound side (suc l)) may (suc l) level → (b : Below) → IsSound side (suc l) b → (t : Token) (ts : List Token)
+      → letter t ≡ (side, terminal.OpenParen) → Decided may (suc l) ts → OnGot (Some_ side unary l (t ∷ ts)) (paren_in side level t.from b ts)
+  paren_sound side l level allows b good t ts is opened =
+      on_bind (Some_ side (suc (top side)) (suc l) ts) _ (b.operand (top side) ts) _ (good.operand (top side) ts) (λ e rest x.
+      on_bind (IsFirst (is_close side) rest) _ (expect (is_close side) rest) _ (on_expect (is_close side) rest) (λ u rest' closes.
+      steps_sound side l level allows (paren t.from e) l (t ∷ ts) rest' (
+        l,
+        (suc l, (l, ts, (t, (is, refl), refl, refl), (suc l, ts, (refl, opened, refl), (suc l, rest, (x.0, whole_of side e ts x.0 rest x.1, refl), (u, close_letter side u closes.0, closes.1, refl)))), refl),
+        refl,
+      )))
+    where
+      whole_of : (side : Bool) (e : Expr) (ts : List Token) (k : ℕ) (rest : List Token) → Is e side (suc (top side)) (suc l) ts k rest → Is e side (whole side) (suc l) ts k rest
+      whole_of false e ts k rest x = x
+      whole_of true e ts k rest x = x
+
+  -- QUANTIFIERS
+
+  module _ (l : ℕ) (b : Below) (good : IsSound true (suc l) b) (t u : Token) (all : Bool) (t_is : letter t ≡ (true, terminal.OpenParen)) (u_is : letter u ≡ (true, quantifier all)) where
+    second_sound_by : (ts : List Token) → Decided may (suc l) (u ∷ ts) → (x : Terminal) (kind i s : Token) (e : Expr) (r1 r2 r3 : List Token) (v : Token) (vs : List Token)
+        → (letter kind ≡ (true, terminal.Name)) → ts ≡ kind ∷ r1 → (letter i ≡ (true, terminal.Name)) → r1 ≡ i ∷ r2 → (letter s ≡ (true, terminal.Semicolon)) → r2 ≡ s ∷ r3
+        → Some_ true 9 (suc l) r3 e (v ∷ vs) → at_side true v ≡ x → OnGot (Some_ true unary l (t ∷ u ∷ ts)) (second_by x b t.from all (ident_of kind) (ident_of i) e v vs)
+    second_sound_by ts opened terminal.Semicolon kind i s e r1 r2 r3 v vs kind_is one_ i_is two s_is three y is =
+        on_bind (Some_ true 9 (suc l) vs) _ (b.operand (top true) vs) _ (good.operand (top true) vs) (λ body rest z.
+        on_bind (IsFirst (is_close true) rest) _ (expect (is_close true) rest) _ (on_expect (is_close true) rest) (λ w rest' closes.
+        (
+          l,
+          (
+            refl,
+            (
+              lit≤ tt,
+              (
+                suc l,
+                (l, u ∷ ts, (t, (t_is, refl), refl, refl), (suc l, u ∷ ts, (refl, opened, refl), (suc l, ts, (u, u_is, refl, refl), (suc l, r1, (kind, (kind_is, refl), one_, refl), (suc l, r2, (i, (i_is, refl), two, refl), (suc l, r3, (s, s_is, three, refl), (suc l, v ∷ vs, (y.0, y.1, refl), (suc l, vs, (v, letter_at true v terminal.Semicolon is refl, refl, refl), (suc l, rest, (z.0, z.1, refl), (w, close_letter true w closes.0, closes.1, refl)))))))))),
+                refl,
+              ),
+            ),
+          ),
+        )))
+    second_sound_by ts opened terminal.CloseParen kind i s e r1 r2 r3 v vs kind_is one_ i_is two s_is three y is =
+        (
+          l,
+          (
+            refl,
+            (
+              lit≤ tt,
+              (
+                suc l,
+                (l, u ∷ ts, (t, (t_is, refl), refl, refl), (suc l, u ∷ ts, (refl, opened, refl), (suc l, ts, (u, u_is, refl, refl), (suc l, r1, (kind, (kind_is, refl), one_, refl), (suc l, r2, (i, (i_is, refl), two, refl), (suc l, r3, (s, s_is, three, refl), (suc l, v ∷ vs, (y.0, y.1, refl), (v, letter_at true v terminal.CloseParen is refl, refl, refl)))))))),
+                refl,
+              ),
+            ),
+          ),
+        )
+    second_sound_by ts opened x kind i s e r1 r2 r3 v vs kind_is one_ i_is two s_is three y is = tt {0}
+
+    second_sound : (ts : List Token) → Decided may (suc l) (u ∷ ts) → (kind i s : Token) (e : Expr) (r1 r2 r3 r4 : List Token)
+        → (letter kind ≡ (true, terminal.Name)) → ts ≡ kind ∷ r1 → (letter i ≡ (true, terminal.Name)) → r1 ≡ i ∷ r2 → (letter s ≡ (true, terminal.Semicolon)) → r2 ≡ s ∷ r3
+        → Some_ true 9 (suc l) r3 e r4 → OnGot (Some_ true unary l (t ∷ u ∷ ts)) (second_in b t.from all (ident_of kind) (ident_of i) e r4)
+    second_sound ts opened kind i s e r1 r2 r3 [] kind_is one_ i_is two s_is three y = tt {0}
+    second_sound ts opened kind i s e r1 r2 r3 (v ∷ vs) kind_is one_ i_is two s_is three y = second_sound_by ts opened (at_side true v) kind i s e r1 r2 r3 v vs kind_is one_ i_is two s_is three y refl
+
+    quantified_sound : (ts : List Token) → Decided may (suc l) (u ∷ ts) → OnGot (Some_ true unary l (t ∷ u ∷ ts)) (quantified_in b t.from all ts)
+    quantified_sound ts opened =
+        on_bind (IsFirst (is_name true) ts) _ (expect (is_name true) ts) _ (on_expect (is_name true) ts) (λ kind r1 kind_is.
+        on_bind (IsFirst (is_name true) r1) _ (expect (is_name true) r1) _ (on_expect (is_name true) r1) (λ i r2 i_is.
+        on_bind (IsFirst (is_semicolon true) r2) _ (expect (is_semicolon true) r2) _ (on_expect (is_semicolon true) r2) (λ s r3 s_is.
+        on_bind (Some_ true 9 (suc l) r3) _ (b.operand (top true) r3) _ (good.operand (top true) r3) (λ e r4 y.
+        second_sound ts opened kind i s e r1 r2 r3 r4 (name_letter true kind kind_is.0) kind_is.1 (name_letter true i i_is.0) i_is.1 (semicolon_letter true s s_is.0) s_is.1 y))))
+
+  group_sound_by : (l : ℕ) (level : Option (Level Below)) → Allows (IsSound true (suc l)) may (suc l) level → (b : Below) → IsSound true (suc l) b → (x : Terminal) (t u : Token) (ts : List Token)
+      → letter t ≡ (true, terminal.OpenParen) → Decided may (suc l) (u ∷ ts) → at_side true u ≡ x → OnGot (Some_ true unary l (t ∷ u ∷ ts)) (group_by x level t.from b u ts)
+  group_sound_by l level allows b good terminal.Forall t u ts is opened so = quantified_sound l b good t u true is (letter_at true u terminal.Forall so refl) ts opened
+  group_sound_by l level allows b good terminal.Exists t u ts is opened so = quantified_sound l b good t u false is (letter_at true u terminal.Exists so refl) ts opened
+  group_sound_by l level allows b good x t u ts is opened so = paren_sound true l level allows b good t (u ∷ ts) is opened
+
+  group_sound : (side : Bool) (l : ℕ) (level : Option (Level Below)) → Allows (IsSound side (suc l)) may (suc l) level → (b : Below) → IsSound side (suc l) b → (t : Token) (ts : List Token)
+      → letter t ≡ (side, terminal.OpenParen) → Decided may (suc l) ts → OnGot (Some_ side unary l (t ∷ ts)) (group_in side level t.from b ts)
+  group_sound false l level allows b good t ts is opened = paren_sound false l level allows b good t ts is opened
+  group_sound true l level allows b good t [] is opened = tt {0}
+  group_sound true l level allows b good t (u ∷ ts) is opened = group_sound_by l level allows b good (at_side true u) t u ts is opened refl
+
+  -- REACHES
+
+  abbrev IsReach : Reach → Phrase
+  IsReach r = closed (Is r.root true (whole true)) ▸ one (true, terminal.Comma) ▸ name true r.kind ▸ one (true, terminal.Comma) ▸ fields_of r.fields
+
+  module _ (l : ℕ) where
+    abbrev IsField : List Token → Ident → List Token → Type 0
+    IsField ts i rest = (one (true, terminal.Plus) ▸ name true i) l ts l rest
+
+    abbrev IsFields : List Token → List Ident → List Token → Type 0
+    IsFields ts is rest = more_fields is l ts l rest
+
+    field_sound : (ts : List Token) → OnGot (IsField ts) (field_in ts)
+    field_sound ts =
+        on_bind (IsFirst (is_plus true) ts) _ (expect (is_plus true) ts) _ (on_expect (is_plus true) ts) (λ t rest is.
+        on_bind (IsFirst (is_name true) rest) _ (expect (is_name true) rest) _ (on_expect (is_name true) rest) (λ u rest' is'.
+        (l, rest, (t, plus_letter true t is.0, is.1, refl), (u, (name_letter true u is'.0, refl), is'.1, refl))))
+
+    field_short : Short (first_is (is_plus true)) field_in
+    field_short ts =
+        on_bind (IsFirst (is_plus true) ts) _ (expect (is_plus true) ts) _ (on_expect (is_plus true) ts) (λ t rest is.
+        on_bind (IsFirst (is_name true) rest) _ (expect (is_name true) rest) _ (on_expect (is_name true) rest) (λ u rest' is'.
+        let one_ : ts ≡ t ∷ rest = is.1 in
+        let two : rest ≡ u ∷ rest' = is'.1 in
+        omega (arith, ap length one_, ap length two)))
+
+    fields_sound : (ts : List Token) → OnGot (IsFields ts) (repeat (first_is (is_plus true)) field_in ts)
+    fields_sound ts = on_repeat (first_is (is_plus true)) field_in IsField IsFields (λ us not. (refl, refl)) (λ us mid rest i is so x more. (x.0, x.1, x.2, (l, mid, x.3, more))) field_sound field_short ts
+
+  reach_sound : (l : ℕ) (b : Below) → IsSound true l b → (ts : List Token) → OnGot (λ r rest. IsReach r l ts l rest) (reach_in b ts)
+  reach_sound l b good ts =
+      on_bind (Some_ true 9 l ts) _ (b.operand (top true) ts) _ (good.operand (top true) ts) (λ root r0 x.
+      on_bind (IsFirst (is_comma true) r0) _ (expect (is_comma true) r0) _ (on_expect (is_comma true) r0) (λ c r1 c_is.
+      on_bind (IsFirst (is_name true) r1) _ (expect (is_name true) r1) _ (on_expect (is_name true) r1) (λ kind r2 kind_is.
+      on_bind (IsFirst (is_comma true) r2) _ (expect (is_comma true) r2) _ (on_expect (is_comma true) r2) (λ d r3 d_is.
+      on_bind (IsFirst (is_name true) r3) _ (expect (is_name true) r3) _ (on_expect (is_name true) r3) (λ i r4 i_is.
+      on_bind (IsFields l r4) _ (repeat (first_is (is_plus true)) field_in r4) _ (fields_sound l r4) (λ is r5 more.
+      (l, r0, (x.0, x.1, refl), (l, r1, (c, comma_letter true c c_is.0, c_is.1, refl), (l, r2, (kind, (name_letter true kind kind_is.0, refl), kind_is.1, refl), (l, r3, (d, comma_letter true d d_is.0, d_is.1, refl), (l, r4, (i, (name_letter true i i_is.0, refl), i_is.1, refl), more)))))))))))
+
+  word_of : (bytes : List ℕ) (t : Token) → is_word bytes t ≡ true → (letter t ≡ (true, terminal.Name)) × (t.kind ≡ Word bytes)
+  word_of bytes t is = by (is_name true t) refl is
+    where
+      by : (named_ : Bool) → is_name true t ≡ named_ → elim named_ [ true ↦ bytes_eq (text_of t.kind) bytes | false ↦ false ] ≡ true → (letter t ≡ (true, terminal.Name)) × (t.kind ≡ Word bytes)
+      by true so same =
+          let letter_is = name_letter true t so in
+          (letter_is, name_kind t.jml t.kind (letter_terminal true t terminal.Name letter_is) ∙ ap Word ((bytes_eq-Decides (text_of t.kind) bytes).0 same))
+      by false so same = absurd (cc)
+
+  -- what is asked of a reach
+  module _ (l : ℕ) (level : Option (Level Below)) (allows : Allows (IsSound true (suc l)) may (suc l) level) (t d : Token) (ts dots : List Token) (r : Reach)
+    (t_is : letter t ≡ (true, terminal.Reach)) (d_is : letter d ≡ (true, terminal.Dot)) (reach_is : bracketed (Decided may) true (IsReach r) l ts l (d ∷ dots)) where
+    question_by : (u : Token) (us : List Token) → dots ≡ u ∷ us → (is_has is_size : Bool) → is_word HAS.now u ≡ is_has → is_word INT_SIZE.now u ≡ is_size
+        → OnGot (Some_ true unary l (t ∷ ts)) (elim is_has as (λ _. Read Expr) [
+            true ↦ bracket true level us (λ b rest. b.operand (top true) rest) >>= (λ e rest. Got (has t.from r.root r.kind r.fields e) rest)
+          | false ↦ elim is_size as (λ _. Read Expr) [ true ↦ bracket true level us (λ b rest. Got (tt {0}) rest) >>= (λ _ rest. Got (size t.from r.root r.kind r.fields) rest) | false ↦ Bad (u ∷ us) ] ])
+    question_by u us parts true is_size so so' =
+        on_bind (λ e rest. bracketed (Decided may) true (closed (Is e true (whole true))) l us l rest) _ (bracket true level us (λ b rest. b.operand (top true) rest)) _
+        (bracket_sound true l level allows (λ e. closed (Is e true (whole true))) (λ b rest. b.operand (top true) rest)
+        (λ b good vs. on_weaken (Some_ true 9 (suc l) vs) _ (b.operand (top true) vs) (good.operand (top true) vs) (λ e rest x. (x.0, x.1, refl))) us)
+        (λ e rest x. (l, (refl, (lit≤ tt, (l, ts, (t, (t_is, refl), refl, refl), (l, d ∷ dots, reach_is, (l, dots, (d, d_is, refl, refl), (l, us, (u, word_of HAS.now u so, parts, refl), x))))))))
+    question_by u us parts false true so so' =
+        on_bind (λ _ rest. bracketed (Decided may) true nothing l us l rest) _ (bracket {A = Unit {0}} true level us (λ b rest. Got (tt {0}) rest)) _
+        (bracket_sound {A = Unit {0}} true l level allows (λ _. nothing) (λ b rest. Got (tt {0}) rest) (λ b good vs. (refl, refl)) us)
+        (λ e rest x. (l, (refl, (lit≤ tt, (l, ts, (t, (t_is, refl), refl, refl), (l, d ∷ dots, reach_is, (l, dots, (d, d_is, refl, refl), (l, us, (u, word_of INT_SIZE.now u so', parts, refl), x))))))))
+    question_by u us parts false false so so' = tt {0}
+
+    question_sound : (rest : List Token) → dots ≡ rest → OnGot (Some_ true unary l (t ∷ ts)) (question_in level t.from r rest)
+    question_sound [] parts = tt {0}
+    question_sound (u ∷ us) parts = question_by u us parts (is_word HAS.now u) (is_word INT_SIZE.now u) refl refl
+
+  -- OPERANDS
+
+  unary_sound_by : (side : Bool) (l : ℕ) (level : Option (Level Below)) → Allows (IsSound side (suc l)) may (suc l) level → (x : Terminal) (t : Token) (ts : List Token) → at_side side t ≡ x
+      → OnGot (Some_ side unary l (t ∷ ts)) (unary_by side level x t ts)
+  unary_sound_by side l level allows terminal.Not t ts is =
+      on_deeper _ (IsSound side (suc l)) may (suc l) level (t ∷ ts) ts _ allows (λ b good opened.
+      on_bind (Some_ side unary (suc l) ts) _ (b.operand 0 ts) _ (good.operand 0 ts) (λ e rest x.
+      (l, (lit≤ tt, (suc l, (l, ts, (t, (letter_at side t terminal.Not is refl, refl), refl, refl), (suc l, ts, (refl, opened, refl), (x.0, x.1, refl))), refl)))))
+  unary_sound_by side l level allows terminal.Minus t ts is =
+      on_deeper _ (IsSound side (suc l)) may (suc l) level (t ∷ ts) ts _ allows (λ b good opened.
+      on_bind (Some_ side unary (suc l) ts) _ (b.operand 0 ts) _ (good.operand 0 ts) (λ e rest x.
+      (l, (lit≤ tt, (suc l, (l, ts, (t, (letter_at side t terminal.Minus is refl, refl), refl, refl), (suc l, ts, (refl, opened, refl), (x.0, x.1, refl))), refl)))))
+  unary_sound_by side l level allows terminal.Number t ts is =
+      let letter_is = letter_at side t terminal.Number is refl in
+      (l, (lit≤ tt, (t, (letter_is, number_kind t.jml t.kind (letter_terminal side t terminal.Number letter_is), refl), refl, refl)))
+  unary_sound_by side l level allows terminal.True t ts is = (l, (lit≤ tt, (t, (letter_at side t terminal.True is refl, refl), refl, refl)))
+  unary_sound_by side l level allows terminal.False t ts is = (l, (lit≤ tt, (t, (letter_at side t terminal.False is refl, refl), refl, refl)))
+  unary_sound_by side l level allows terminal.Null t ts is = (l, (lit≤ tt, (t, (letter_at side t terminal.Null is refl, refl), refl, refl)))
+  unary_sound_by side l level allows terminal.This t ts is = steps_sound side l level allows (this t.from) l (t ∷ ts) ts (l, (t, (letter_at side t terminal.This is refl, refl), refl, refl), refl)
+  unary_sound_by side l level allows terminal.Name t ts is =
+      let letter_is = letter_at side t terminal.Name is refl in
+      called_sound side l level allows (named t.from (ident_of t)) (call t.from (ident_of t)) l (t ∷ ts) ts (l, (refl, (t, (letter_is, refl), refl, refl)), refl)
+      (λ code es rest args. (l, (code, (refl, (l, ts, (t, (letter_is, refl), refl, refl), args))), refl))
+  unary_sound_by side l level allows terminal.OpenParen t ts is =
+      on_deeper _ (IsSound side (suc l)) may (suc l) level (t ∷ ts) ts _ allows (λ b good opened. group_sound side l level allows b good t ts (letter_at side t terminal.OpenParen is refl) opened)
+  unary_sound_by false l level allows terminal.New t ts is =
+      on_bind (IsFirst (is_name false) ts) _ (expect (is_name false) ts) _ (on_expect (is_name false) ts) (λ i rest i_is.
+      on_bind (λ _ rest'. bracketed (Decided may) false nothing l rest l rest') _ (bracket {A = Unit {0}} false level rest (λ b rest. Got (tt {0}) rest)) _
+      (bracket_sound {A = Unit {0}} false l level allows (λ _. nothing) (λ b rest. Got (tt {0}) rest) (λ b good vs. (refl, refl)) rest)
+      (λ e rest' x. steps_sound false l level allows (make t.from (ident_of i)) l (t ∷ ts) rest'
+      (l, (refl, (l, ts, (t, (letter_at false t terminal.New is refl, refl), refl, refl), (l, rest, (i, (name_letter false i i_is.0, refl), i_is.1, refl), x))), refl)))
+  unary_sound_by true l level allows terminal.ResultValue t ts is =
+      steps_sound true l level allows (outcome t.from) l (t ∷ ts) ts (l, (refl, (t, (letter_at true t terminal.ResultValue is refl, refl), refl, refl)), refl)
+  unary_sound_by true l level allows terminal.Old t ts is =
+      on_bind (λ e rest. bracketed (Decided may) true (closed (Is e true (whole true))) l ts l rest) _ (bracket true level ts (λ b rest. b.operand (top true) rest)) _
+      (bracket_sound true l level allows (λ e. closed (Is e true (whole true))) (λ b rest. b.operand (top true) rest)
+      (λ b good vs. on_weaken (Some_ true 9 (suc l) vs) _ (b.operand (top true) vs) (good.operand (top true) vs) (λ e rest x. (x.0, x.1, refl))) ts)
+      (λ e rest x. steps_sound true l level allows (old t.from e) l (t ∷ ts) rest (l, (refl, (l, ts, (t, (letter_at true t terminal.Old is refl, refl), refl, refl), x)), refl))
+  unary_sound_by true l level allows terminal.Reach t ts is =
+      on_bind (λ r rest. bracketed (Decided may) true (IsReach r) l ts l rest) _ (bracket true level ts reach_in) _ (bracket_sound true l level allows IsReach reach_in (λ b good vs. reach_sound (suc l) b good vs) ts)
+      (λ r rest x. on_bind (IsFirst (is_dot true) rest) _ (expect (is_dot true) rest) _ (on_expect (is_dot true) rest) (λ d dots d_is.
+      question_sound l level allows t d ts dots r (letter_at true t terminal.Reach is refl) (dot_letter true d d_is.0) (subst (λ (us : List Token). bracketed (Decided may) true (IsReach r) l ts l us) d_is.1 x) dots refl))
+  unary_sound_by side l level allows x t ts is = tt {0}
+
+  unary_sound : (side : Bool) (l : ℕ) (level : Option (Level Below)) → Allows (IsSound side (suc l)) may (suc l) level → (ts : List Token) → OnGot (Some_ side unary l ts) (unary_in side level ts)
+  unary_sound side l level allows [] = tt {0}
+  unary_sound side l level allows (t ∷ ts) = unary_sound_by side l level allows (at_side side t) t ts refl
+
+  pub operand_sound : (side : Bool) (l : ℕ) (level : Option (Level Below)) → Allows (IsSound side (suc l)) may (suc l) level → (n : ℕ) (ts : List Token) → OnGot (Some_ side (suc n) l ts) (operand_in side level n ts)
+  operand_sound side l level allows zero ts = unary_sound side l level allows ts
+  operand_sound side l level allows (suc n) ts =
+      on_bind (Some_ side (suc n) l ts) _ (operand_in side level n ts) _ (operand_sound side l level allows n ts) (λ e rest x. chain_sound side l level allows n e l ts rest (inl (x.0, x.1, refl)))
