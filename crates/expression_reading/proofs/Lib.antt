@@ -3,3 +3,4 @@ pub mod Endings
 pub mod Links
 pub mod Sound
 pub mod Below
+pub mod Complete

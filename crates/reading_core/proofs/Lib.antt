@@ -8,3 +8,4 @@ pub mod Instance
 pub mod Told
 pub mod Inside
 pub mod Tokens
+pub mod Parts
