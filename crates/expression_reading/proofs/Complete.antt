@@ -1,7 +1,7 @@
 -- What is of the grammar is read.
 use Rattle.std.proofs.Common.{◌≡◌, ℕ, ◌+◌, ◌-◌, ◌<◌, ◌≤◌, ◌==◌, zero, suc, Bool, true, false, bytes_eq, List, [], ◌∷◌, length, refl, sym, ◌∙◌, ap, subst, arith, ◌⊎◌, inl, inr, lit≤, lit<}
 use Rattle.std.specs.Prelude.{Option, Some, None}
-use Rattle.std.proofs.lemmas.Bool.{eq-eqb, eqb-false, ne_eqb}
+use Rattle.std.proofs.lemmas.Bool.{eq-eqb, eqb-true, eqb-false, ne_eqb}
 use Rattle.std.proofs.lemmas.Bool.Decides.{leb_tells}
 use Rattle.std.specs.Prelude.{leb}
 use Rattle.std.proofs.lemmas.Slice.Eq.{bytes_eq-Decides}
@@ -27,7 +27,7 @@ use Rattle.reading_core.proofs.Tokens.{at_letter}
 use Rattle.reading_core.proofs.Parts.{from_token, from_opens, from_closed}
 use Rattle.expression_reading.specs.Operators.{Link, Ends, Left, Right, sign_of, link_by, link_at, link, top}
 use Rattle.expression_reading.specs.Reading.{Below, Reach, exprs, link_in, chain_in, steps_in, argument_in, arguments_in, called_by, called_in, step_in, field_in, reach_in, is_word, is_dot, is_plus, is_dot_terminal, is_plus_terminal, first_is, question_in, second_by, second_in, quantified_in, paren_in, group_by, group_in, unary_by, unary_in, operand_in, below}
-use Rattle.expression_reading.proofs.Links.{is_of}
+use Rattle.expression_reading.proofs.Links.{is_of, left_of, left_tier_of, right_tier_of, is_chain_of, implies_of, tier_from_2}
 use Rattle.expression_reading.proofs.Sound.{Is, operand_sound, operand_short}
 use Rattle.expression_reading.proofs.Below.{below_sound}
 
@@ -745,3 +745,115 @@ module _ (may : ℕ → List Token → Bool) (test : Test) (cap : ℕ) (counts :
       goes ∙ when_false (is_word HAS.now u) _ _ (word_is HAS.now INT_SIZE.now u u_is kind_is) ∙ when_true (is_word INT_SIZE.now u) _ _ (word_is INT_SIZE.now INT_SIZE.now u u_is kind_is)
       ∙ bind_got (bracket {A = Unit {0}} true (At true l) us (λ b rest. Got (tt {0}) rest)) _ (tt {0}) rest
       (bracket_got {A = Unit {0}} true nothing l us rest (λ b rest. Got (tt {0}) rest) (tt {0}) b (ap (Got (tt {0})) (sym b.inside.1)))) x)
+
+  -- CHAINS
+
+  -- the left part of a chain
+  left_got : (s : Sign) (a : Expr) → IsComplete a → (side : Bool) (n l : ℕ) (ts : List Token) (j : ℕ) (mid : List Token) → tier_of s ≡ suc (suc n) → (n ≡ 6 → ⊥) → chained (is_chain s a) (Is test a side (left_tier s)) l ts j mid
+      → IsFree side n mid → operand_in side (At side l) (suc n) ts ≡ chain_in side (At side j) n a mid
+  left_got s a c side n l ts j mid tier other x free = by (is_chain s a) (is_chain_of s a not_8 ∙ ap (λ m. is_of m a) tier) x
+    where
+      not_8 : tier_of s ≡ 8 → ⊥
+      not_8 is = let eight : 8 ≡ suc (suc n) = sym is ∙ tier in other (omega (arith, eight))
+
+      left_is : left_tier s ≡ suc (suc n)
+      left_is = left_tier_of s not_8 ∙ tier
+
+      by : (goes_on : Bool) → goes_on ≡ is_of (suc (suc n)) a → chained goes_on (Is test a side (left_tier s)) l ts j mid → operand_in side (At side l) (suc n) ts ≡ chain_in side (At side j) n a mid
+      by true is y = c.chained_ side n l ts j mid (subst (λ (m : ℕ). Is test a side m l ts j mid) left_is y) (sym is) other free
+      by false is (i, y, level) =
+          let low = lower a side n l ts i mid (sym is) (subst (λ (m : ℕ). Is test a side m l ts i mid) left_is y) in
+          bind_got (operand_in side (At side l) n ts) (λ e rest. chain_in side (At side l) n e rest) a mid (c.got side n l ts i mid low free) ∙ ap (λ m. chain_in side (At side m) n a mid) (sym level)
+
+  module _ (at : ℕ) (s : Sign) (a b : Expr) (c : IsComplete a) (d : IsComplete b) where
+    -- as the left part of a chain
+    chain_got : (side : Bool) (n l : ℕ) (ts : List Token) (k : ℕ) (rest : List Token) → Is test (bin at s a b) side (suc (suc n)) l ts k rest → tier_of s ≡ suc (suc n) → (n ≡ 6 → ⊥) → IsFree side n rest
+        → operand_in side (At side l) (suc n) ts ≡ chain_in side (At side k) n (bin at s a b) rest
+    chain_got side n l ts k rest (low, (same, (j, mid, x, y))) tier other free =
+        let not_8 : tier_of s ≡ 8 → ⊥ = λ is. let eight : 8 ≡ suc (suc n) = sym is ∙ tier in other (omega (arith, eight)) in
+        let t = from_token (opens (Decided test) ▸ closed (Is test b side (right_tier s))) j mid k rest _ y in
+        let (opened, (i, z, level)) = from_opens (closed (Is test b side (right_tier s))) j t.behind k rest (Decided test) t.then_ in
+        let right_is : right_tier s ≡ suc n = right_tier_of s not_8 ∙ ap (λ m. m - 1) tier ∙ less n in
+        left_got s a c side n l ts j mid tier other x (free_first side n t.first t.behind mid t.parts (free_sign side n t.first t.behind s t.is (subst (λ (m : ℕ). suc n < m) (sym tier) (omega arith))))
+        ∙ ap (chain_in side (At side j) n a) t.parts ∙ ap (link_in (At side j) n a t.first t.behind) (link_own side n t.first s t.is tier ∙ left_of s not_8)
+        ∙ deeper_at side j (t.first ∷ t.behind) t.behind _ opened
+        ∙ bind_got (operand_in side (At side (suc j)) n t.behind) (λ right rest. chain_in side (At side (suc j)) n (bin (place a) s a right) rest) b rest
+        (d.got side n (suc j) t.behind i rest (subst (λ (m : ℕ). Is test b side m (suc j) t.behind i rest) right_is z) free)
+        ∙ ap (λ p. chain_in side (At side (suc j)) n (bin p s a b) rest) (sym same) ∙ ap (λ m. chain_in side (At side m) n (bin at s a b) rest) (sym level)
+      where
+        less : (n : ℕ) → suc (suc n) - 1 ≡ suc n
+        less n = omega arith
+
+    -- `==>`
+    implies_got : s ≡ sign.Implies → (side : Bool) (n l : ℕ) (ts : List Token) (k : ℕ) (rest : List Token) → Is test (bin at s a b) side (suc n) l ts k rest → IsFree side n rest
+        → operand_in side (At side l) n ts ≡ Got (bin at s a b) rest
+    implies_got is side n l ts k rest x free = subst (λ (r : Sign). Is test (bin at r a b) side (suc n) l ts k rest → operand_in side (At side l) n ts ≡ Got (bin at r a b) rest) (sym is) go x
+      where
+        go : Is test (bin at sign.Implies a b) side (suc n) l ts k rest → operand_in side (At side l) n ts ≡ Got (bin at sign.Implies a b) rest
+        go (low, (same, (j, mid, (i, y, level), z))) =
+            let t = from_token (opens (Decided test) ▸ closed (Is test b side 8)) j mid k rest _ z in
+            let (opened, (h, w, level')) = from_opens (closed (Is test b side 8)) j t.behind k rest (Decided test) t.then_ in
+            let free_7 : IsFree side 7 rest = free_less side 7 n (omega arith) rest free in
+            up_to side l ts (bin at sign.Implies a b) rest 7 n (omega arith)
+            (bind_got (operand_in side (At side l) 6 ts) (λ e rest. chain_in side (At side l) 6 e rest) a mid
+            (c.got side 6 l ts i mid y (free_first side 6 t.first t.behind mid t.parts (free_sign side 6 t.first t.behind sign.Implies t.is (lit< tt))))
+            ∙ ap (λ m. chain_in side (At side m) 6 a mid) (sym level)
+            ∙ ap (chain_in side (At side j) 6 a) t.parts ∙ ap (link_in (At side j) 6 a t.first t.behind) (link_own side 6 t.first sign.Implies t.is refl)
+            ∙ deeper_at side j (t.first ∷ t.behind) t.behind _ opened
+            ∙ bind_got (operand_in side (At side (suc j)) 7 t.behind) (λ right rest. Got (bin (place a) sign.Implies a right) rest) b rest (d.got side 7 (suc j) t.behind h rest w free_7)
+            ∙ ap (λ p. Got (bin p sign.Implies a b) rest) (sym same)) free
+
+    other_got : (m : ℕ) → tier_of s ≡ suc (suc m) → (m ≡ 6 → ⊥) → (side : Bool) (n l : ℕ) (ts : List Token) (k : ℕ) (rest : List Token) → Is test (bin at s a b) side (suc n) l ts k rest → IsFree side n rest
+        → operand_in side (At side l) n ts ≡ Got (bin at s a b) rest
+    other_got m tier other side n l ts k rest (low, x) free =
+        let less : suc (suc m) ≤ suc n = subst (λ (i : ℕ). i ≤ suc n) tier low in
+        up_to side l ts (bin at s a b) rest (suc m) n (omega arith)
+        (chain_got side m l ts k rest (subst (λ (i : ℕ). i ≤ suc (suc m)) (sym tier) (omega arith), x) tier other (free_less side m n (omega arith) rest free)
+        ∙ chain_ends side k n m (bin at s a b) rest (omega arith) free) free
+
+    bin_got : (side : Bool) (n l : ℕ) (ts : List Token) (k : ℕ) (rest : List Token) → Is test (bin at s a b) side (suc n) l ts k rest → IsFree side n rest → operand_in side (At side l) n ts ≡ Got (bin at s a b) rest
+    bin_got side n l ts k rest x free = by (tier_from_2 s)
+      where
+        by : (m : ℕ) × (tier_of s ≡ suc (suc m)) → operand_in side (At side l) n ts ≡ Got (bin at s a b) rest
+        by (m, tier) =
+            elim (tested (m == 6)) [
+              inl is ↦ implies_got (implies_of s (tier ∙ ap (λ i. suc (suc i)) (eqb-true m 6 is))) side n l ts k rest x free
+            | inr not ↦ other_got m tier (eqb-false m 6 not) side n l ts k rest x free ]
+
+    bin_complete : IsComplete (bin at s a b)
+    bin_complete = record {
+      got = bin_got;
+      chained_ = λ side n l ts k rest x is other free. chain_got side n l ts k rest x (eqb-true (tier_of s) (suc (suc n)) is) other free;
+      stepped = λ side l ts k rest x not. absurd (none_below s x.0);
+    }
+      where
+        none_below : (s : Sign) → tier_of s ≤ 0 → ⊥
+        none_below s low = let (n, is) = tier_from_2 s in omega (arith, is)
+
+  -- ALL OF THEM
+
+  mutual
+    pub complete : (e : Expr) → IsComplete e
+    complete (num at n) = num_complete at n
+    complete (flag at b) = flag_complete at b
+    complete (null at) = null_complete at
+    complete (this at) = this_complete at
+    complete (outcome at) = outcome_complete at
+    complete (make at i) = make_complete at i
+    complete (named at i) = named_complete at i
+    complete (call at i es) = call_complete at i es (complete_list es)
+    complete (read at e i) = read_complete at e i (complete e)
+    complete (call_on at e i es) = call_on_complete at e i es (complete e) (complete_list es)
+    complete (paren at e) = paren_complete at e (complete e)
+    complete (negation at e) = negation_complete at e (complete e)
+    complete (minus at e) = minus_complete at e (complete e)
+    complete (bin at s e f) = bin_complete at s e f (complete e) (complete f)
+    complete (old at e) = old_complete at e (complete e)
+    complete (quant at all kind i e) = quant_complete at all kind i e (complete e)
+    complete (quant_in at all kind i e f) = quant_in_complete at all kind i e f (complete e) (complete f)
+    complete (has at e kind fields f) = has_complete at e kind fields f (complete e) (complete f)
+    complete (size at e kind fields) = size_complete at e kind fields (complete e)
+
+    complete_list : (es : Exprs) → IsCompleteList es
+    complete_list none = none_complete
+    complete_list (also e es) = also_complete e es (complete e) (complete_list es)

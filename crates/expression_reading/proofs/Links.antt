@@ -135,3 +135,65 @@ right_link side n t is =
     let same = link_by_right r by in
     let tier_8 : 8 ≡ suc (suc n) = sym (ap tier_of same) ∙ tier in
     (omega (arith, tier_8), letter_at side t terminal.Implies (terminal_of_sign_of (at_side side t) sign.Implies (found ∙ ap Some same)) refl)
+
+-- WHAT AN OPERATOR IS, BUT `==>`
+
+pub left_of : (s : Sign) → (tier_of s ≡ 8 → ⊥) → link_by s ≡ Left s
+left_of sign.Mul other = refl
+left_of sign.Add other = refl
+left_of sign.Sub other = refl
+left_of sign.Lt other = refl
+left_of sign.Le other = refl
+left_of sign.Gt other = refl
+left_of sign.Ge other = refl
+left_of sign.Eq other = refl
+left_of sign.Ne other = refl
+left_of sign.And other = refl
+left_of sign.Or other = refl
+left_of sign.Iff other = refl
+left_of sign.Implies other = absurd (other refl)
+
+not_implies : (s : Sign) → (tier_of s ≡ 8 → ⊥) → is_implies s ≡ false
+not_implies sign.Mul other = refl
+not_implies sign.Add other = refl
+not_implies sign.Sub other = refl
+not_implies sign.Lt other = refl
+not_implies sign.Le other = refl
+not_implies sign.Gt other = refl
+not_implies sign.Ge other = refl
+not_implies sign.Eq other = refl
+not_implies sign.Ne other = refl
+not_implies sign.And other = refl
+not_implies sign.Or other = refl
+not_implies sign.Iff other = refl
+not_implies sign.Implies other = absurd (other refl)
+
+pub left_tier_of : (s : Sign) → (tier_of s ≡ 8 → ⊥) → left_tier s ≡ tier_of s
+left_tier_of s other = left_same s (not_implies s other)
+
+pub right_tier_of : (s : Sign) → (tier_of s ≡ 8 → ⊥) → right_tier s ≡ tier_of s - 1
+right_tier_of s other = right_less s (not_implies s other)
+
+pub is_chain_of : (s : Sign) (e : Expr) → (tier_of s ≡ 8 → ⊥) → is_chain s e ≡ is_of (tier_of s) e
+is_chain_of s e other = chain_same s e (not_implies s other)
+
+-- only `==>` has its tier
+pub implies_of : (s : Sign) → tier_of s ≡ 8 → s ≡ sign.Implies
+implies_of sign.Implies is = refl
+implies_of s is = absurd (omega arith)
+
+-- each operator has a tier from 2
+pub tier_from_2 : (s : Sign) → (n : ℕ) × (tier_of s ≡ suc (suc n))
+tier_from_2 sign.Mul = (0, refl)
+tier_from_2 sign.Add = (1, refl)
+tier_from_2 sign.Sub = (1, refl)
+tier_from_2 sign.Lt = (2, refl)
+tier_from_2 sign.Le = (2, refl)
+tier_from_2 sign.Gt = (2, refl)
+tier_from_2 sign.Ge = (2, refl)
+tier_from_2 sign.Eq = (3, refl)
+tier_from_2 sign.Ne = (3, refl)
+tier_from_2 sign.And = (4, refl)
+tier_from_2 sign.Or = (5, refl)
+tier_from_2 sign.Implies = (6, refl)
+tier_from_2 sign.Iff = (7, refl)
