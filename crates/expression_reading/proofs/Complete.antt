@@ -25,7 +25,9 @@ use Rattle.reading_core.proofs.Runs.{tested, when_true, when_false}
 use Rattle.reading_core.proofs.ReadLaws.{on_bind, on_weaken, on_expect, IsFirst, Short, expect_got, repeat_got, repeat_end}
 use Rattle.reading_core.proofs.Tokens.{at_letter}
 use Rattle.reading_core.proofs.Parts.{from_token, from_opens, from_closed}
-use Rattle.expression_reading.specs.Operators.{Link, Ends, Left, Right, sign_of, link_by, link_at, link, top}
+use Rattle.expression_reading.specs.declared.operators.Link.{Link}
+use Rattle.expression_reading.specs.declared.operators.Link.TheVariants.{Ends, Left, Right}
+use Rattle.expression_reading.specs.Operators.{sign_of, link_by, link_at, link_of, top}
 use Rattle.expression_reading.specs.Reading.{Below, Reach, exprs, link_in, chain_in, steps_in, argument_in, arguments_in, called_by, called_in, step_in, field_in, reach_in, is_word, is_dot, is_plus, is_dot_terminal, is_plus_terminal, first_is, question_in, second_by, second_in, quantified_in, paren_in, group_by, group_in, unary_by, unary_in, operand_in, below}
 use Rattle.expression_reading.proofs.Links.{is_of, left_of, left_tier_of, right_tier_of, is_chain_of, implies_of, tier_from_2}
 use Rattle.expression_reading.proofs.Sound.{Is, operand_sound, operand_short}
@@ -79,13 +81,13 @@ sign_no_open sign.Or = refl
 sign_no_open sign.Implies = refl
 sign_no_open sign.Iff = refl
 
-link_signed : (side : Bool) (n : ℕ) (t : Token) (s : Sign) → letter t ≡ (side, terminal_of_sign s) → link side n t ≡ link_at n (Some s)
+link_signed : (side : Bool) (n : ℕ) (t : Token) (s : Sign) → letter t ≡ (side, terminal_of_sign s) → link_of side n t ≡ link_at n (Some s)
 link_signed side n t s is = ap (λ x. link_at n (sign_of x)) (at_letter side t (terminal_of_sign s) is) ∙ ap (link_at n) (sign_again s)
 
-link_own : (side : Bool) (n : ℕ) (t : Token) (s : Sign) → letter t ≡ (side, terminal_of_sign s) → tier_of s ≡ suc (suc n) → link side n t ≡ link_by s
+link_own : (side : Bool) (n : ℕ) (t : Token) (s : Sign) → letter t ≡ (side, terminal_of_sign s) → tier_of s ≡ suc (suc n) → link_of side n t ≡ link_by s
 link_own side n t s is tier = link_signed side n t s is ∙ when_true (tier_of s == suc (suc n)) _ _ (eq-eqb (tier_of s) (suc (suc n)) tier)
 
-link_other : (side : Bool) (n : ℕ) (t : Token) (s : Sign) → letter t ≡ (side, terminal_of_sign s) → (tier_of s ≡ suc (suc n) → ⊥) → link side n t ≡ Ends
+link_other : (side : Bool) (n : ℕ) (t : Token) (s : Sign) → letter t ≡ (side, terminal_of_sign s) → (tier_of s ≡ suc (suc n) → ⊥) → link_of side n t ≡ Ends
 link_other side n t s is not = link_signed side n t s is ∙ when_false (tier_of s == suc (suc n)) _ _ (ne_eqb (tier_of s) (suc (suc n)) not)
 
 -- WHAT FOLLOWS
@@ -93,7 +95,7 @@ link_other side n t s is not = link_signed side n t s is ∙ when_false (tier_of
 -- Nothing that goes on with an operand of the number n comes first.
 abbrev pub IsFree : Bool → ℕ → List Token → Type 0
 IsFree side n [] = Unit {0}
-IsFree side n (t ∷ ts) = ((m : ℕ) → m < n → link side m t ≡ Ends) × (is_dot side t ≡ false) × (is_open side t ≡ false)
+IsFree side n (t ∷ ts) = ((m : ℕ) → m < n → link_of side m t ≡ Ends) × (is_dot side t ≡ false) × (is_open side t ≡ false)
 
 pub free_less : (side : Bool) (m n : ℕ) → m ≤ n → (ts : List Token) → IsFree side n ts → IsFree side m ts
 free_less side m n low [] free = tt {0}

@@ -15,7 +15,9 @@ use Rattle.reading_core.specs.Follow.{follow, behind, Allows}
 use Rattle.reading_core.proofs.Runs.{tested, when_true, when_false}
 use Rattle.reading_core.proofs.Follows.{follow_bind, follow_same, follow_then, ends_early, ends_well, at_first, need_sim, then_act, deeper_sim, enclosed_sim, bracket_sim}
 use Rattle.reading_core.proofs.ReadLaws.{on_bind, on_weaken, on_expect, IsFirst, Short, repeat_sim}
-use Rattle.expression_reading.specs.Operators.{Link, Ends, Left, Right, link, top}
+use Rattle.expression_reading.specs.declared.operators.Link.{Link}
+use Rattle.expression_reading.specs.declared.operators.Link.TheVariants.{Ends, Left, Right}
+use Rattle.expression_reading.specs.Operators.{link_of, top}
 use Rattle.expression_reading.specs.Reading.{Below, Reach, exprs, link_in, chain_in, steps_in, argument_in, arguments_in, called_by, called_in, step_in, field_in, reach_in, is_word, is_dot, is_plus, is_dot_terminal, is_plus_terminal, first_is, question_in, second_by, second_in, quantified_in, paren_in, group_by, group_in, unary_by, unary_in, operand_in}
 use Rattle.expression_reading.specs.Wants.{Want, Operand, Chain, Steps, Called, Step as StepWant, Args, MoreArgs, New, NewOpen, Bracket, Empty, Group, Second, Reach as ReachWant, Fields, Dot, Question, Name, Close, Comma, Semicolon, is_ready, after_name, group_starts, unary_starts, starts, goes_on, steps_on, calls, args_start, args_go_on, quantified, group_on, second_on, fields_on, question_on, reacts}
 
@@ -97,7 +99,7 @@ module _ {W : Type 0} (react : W → Token → Act W) (ready : W → Bool) (may 
 
     pub chain_sim : (n : ℕ) (e : Expr) (ts : List Token) (ws : List W) → follow (chain_in side level n e ts) (on_with ws) ≡ run react ready may ts (inn (Chain side n l) ∷ ws)
     chain_sim n e [] ws = well (Chain side n l) refl ws
-    chain_sim n e (t ∷ ts) ws = link_sim n e t ts ws (link side n t) ∙ first (Chain side n l) t ts ws
+    chain_sim n e (t ∷ ts) ws = link_sim n e t ts ws (link_of side n t) ∙ first (Chain side n l) t ts ws
 
     steps_by : (e : Expr) (t : Token) (ts : List Token) (ws : List W) (dot : Bool)
         → follow (elim dot as (λ _. Read Expr) [ true ↦ deeper level (t ∷ ts) ts (λ b. b.step e ts) | false ↦ Got e (t ∷ ts) ]) (on_with ws)

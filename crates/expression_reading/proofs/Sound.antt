@@ -24,7 +24,9 @@ use Rattle.reading_core.proofs.Runs.{tested, when_true, when_false}
 use Rattle.reading_core.proofs.ReadLaws.{on_bind, on_weaken, on_expect, on_deeper, IsFirst, Short, on_repeat}
 use Rattle.reading_core.proofs.Tokens.{letter_at, at_letter, name_letter, open_letter, close_letter, comma_letter, semicolon_letter, name_kind, number_kind, letter_terminal}
 use Rattle.reading_core.proofs.Keeps.{phrase_keeps, shorter}
-use Rattle.expression_reading.specs.Operators.{Link, Ends, Left, Right, link, top}
+use Rattle.expression_reading.specs.declared.operators.Link.{Link}
+use Rattle.expression_reading.specs.declared.operators.Link.TheVariants.{Ends, Left, Right}
+use Rattle.expression_reading.specs.Operators.{link_of, top}
 use Rattle.expression_reading.specs.Reading.{Below, Reach, exprs, link_in, chain_in, steps_in, argument_in, arguments_in, called_by, called_in, step_in, field_in, reach_in, is_word, is_dot, is_plus, is_dot_terminal, is_plus_terminal, first_is, question_in, second_by, second_in, quantified_in, paren_in, group_by, group_in, unary_by, unary_in, operand_in}
 use Rattle.expression_reading.proofs.Links.{is_of, LeftLink, left_link, right_link}
 
@@ -132,7 +134,7 @@ module _ (may : Test) where
   module _ (side : Bool) (l : ℕ) (level : Option (Level Below)) (allows : Allows (IsSound side (suc l)) may (suc l) level) where
     -- CHAINS AND STEPS
 
-    link_sound : (n : ℕ) (e : Expr) (l0 : ℕ) (ts0 : List Token) (t : Token) (ts : List Token) → IsPart n e side l0 ts0 l (t ∷ ts) → (k : Link) → link side n t ≡ k
+    link_sound : (n : ℕ) (e : Expr) (l0 : ℕ) (ts0 : List Token) (t : Token) (ts : List Token) → IsPart n e side l0 ts0 l (t ∷ ts) → (k : Link) → link_of side n t ≡ k
         → OnGot (Some_ side (suc (suc n)) l0 ts0) (link_in level n e t ts k)
     link_sound n e l0 ts0 t ts part Ends is = part_whole n e side l0 ts0 l (t ∷ ts) part
     link_sound n e l0 ts0 t ts part (Left s) is =
@@ -189,7 +191,7 @@ module _ (may : Test) where
 
     pub chain_sound : (n : ℕ) (e : Expr) (l0 : ℕ) (ts0 ts : List Token) → IsPart n e side l0 ts0 l ts → OnGot (Some_ side (suc (suc n)) l0 ts0) (chain_in side level n e ts)
     chain_sound n e l0 ts0 [] part = part_whole n e side l0 ts0 l [] part
-    chain_sound n e l0 ts0 (t ∷ ts) part = link_sound n e l0 ts0 t ts part (link side n t) refl
+    chain_sound n e l0 ts0 (t ∷ ts) part = link_sound n e l0 ts0 t ts part (link_of side n t) refl
 
     steps_by : (e : Expr) (l0 : ℕ) (ts0 : List Token) (t : Token) (ts : List Token) → IsStepped e side l0 ts0 l (t ∷ ts) → (dot : Bool) → is_dot side t ≡ dot
         → OnGot (Some_ side unary l0 ts0) (elim dot as (λ _. Read Expr) [ true ↦ deeper level (t ∷ ts) ts (λ b. b.step e ts) | false ↦ Got e (t ∷ ts) ])
