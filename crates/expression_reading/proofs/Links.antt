@@ -1,7 +1,7 @@
 -- What the operator behind an operand tells.
-use Rattle.std.proofs.Common.{◌≡◌, ℕ, ◌-◌, ◌<◌, ◌≤◌, ◌==◌, zero, suc, Bool, true, false, refl, sym, ◌∙◌, ap, subst, arith}
+use Rattle.std.proofs.Common.{◌≡◌, ℕ, ◌-◌, ◌==◌, suc, Bool, true, false, refl, sym, ◌∙◌, ap, arith}
 use Rattle.std.specs.Prelude.{Option, Some, None}
-use Rattle.std.proofs.lemmas.Bool.{eqb-true, eq-eqb, ne_eqb}
+use Rattle.std.proofs.lemmas.Bool.{eqb-true}
 use Rattle.java_lex.specs.declared.spelling.Terminal.{Terminal}
 use Rattle.java_lex.specs.declared.spelling.Terminal.TheVariants as terminal
 use Rattle.java_lex.specs.declared.token.Token.{Token}
@@ -11,8 +11,7 @@ use Rattle.java_tree.specs.Trees.{Expr, bin}
 use Rattle.java_tree.specs.Phrases.{letter}
 use Rattle.java_tree.specs.Expressions.{tier_of, terminal_of_sign, left_tier, right_tier, is_chain}
 use Rattle.reading_core.specs.Read.{at_side}
-use Rattle.reading_core.proofs.Runs.{when_true, when_false}
-use Rattle.reading_core.proofs.Tokens.{is_reserved, letter_at, at_letter}
+use Rattle.reading_core.proofs.Tokens.{is_reserved, letter_at}
 use Rattle.expression_reading.specs.declared.operators.Link.{Link}
 use Rattle.expression_reading.specs.declared.operators.Link.TheVariants.{Ends, Left, Right}
 use Rattle.expression_reading.specs.Operators.{sign_of, link_by, link_at, link_of}

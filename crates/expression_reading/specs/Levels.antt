@@ -1,5 +1,5 @@
 -- Levels in the code: each may be opened where one is left.
-use Rattle.std.specs.Prelude.{ℕ, zero, suc, Bool, List, Option, Some, None}
+use Rattle.std.specs.Prelude.{ℕ, zero, suc, Bool, List, Option}
 use Rattle.java_lex.specs.declared.token.Token.{Token}
 use Rattle.java_tree.specs.Trees.{Expr}
 use Rattle.reading_core.specs.Read.{Read, Got, ◌>>=◌}

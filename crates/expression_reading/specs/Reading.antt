@@ -1,10 +1,9 @@
 -- Reading expressions of code (side false) and of clauses (true), by what the first token of each part is.
-use Rattle.std.specs.Prelude.{◌≡◌, ℕ, zero, suc, Bool, true, false, bytes_eq, List, [], ◌∷◌, Option, Some, None}
+use Rattle.std.specs.Prelude.{ℕ, zero, suc, Bool, true, false, bytes_eq, List, [], ◌∷◌, Option, Some, None}
 use Rattle.java_lex.specs.declared.spelling.Terminal.{Terminal}
 use Rattle.java_lex.specs.declared.spelling.Terminal.TheVariants as terminal
 use Rattle.java_lex.specs.declared.token.Token.{Token}
 use Rattle.java_lex.specs.declared.words.TheConstants.{HAS, INT_SIZE}
-use Rattle.java_tree.specs.declared.expressions.Sign.{Sign}
 use Rattle.java_tree.specs.declared.expressions.Sign.TheVariants.{Implies}
 use Rattle.java_tree.specs.declared.names.Ident.{Ident}
 use Rattle.java_tree.specs.Trees.{Expr, num, flag, null, this, outcome, make, named, call, read, call_on, paren, negation, minus, bin, old, quant, quant_in, has, size, Exprs, none, also}

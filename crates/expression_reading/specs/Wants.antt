@@ -1,5 +1,5 @@
 -- What is awaited within an expression, and what it does at a token. The numbers are levels, counted from 0.
-use Rattle.std.specs.Prelude.{◌≡◌, ℕ, zero, suc, Bool, true, false, List, [], ◌∷◌, ◌++◌}
+use Rattle.std.specs.Prelude.{ℕ, zero, suc, Bool, true, false, List, [], ◌∷◌}
 use Rattle.java_lex.specs.declared.spelling.Terminal.{Terminal}
 use Rattle.java_lex.specs.declared.spelling.Terminal.TheVariants as terminal
 use Rattle.java_lex.specs.declared.token.Token.{Token}
@@ -9,7 +9,7 @@ use Rattle.reading_core.specs.Machine.{Act, Take, Open, Leave, Refuse, then_, ta
 use Rattle.expression_reading.specs.declared.operators.Link.{Link}
 use Rattle.expression_reading.specs.declared.operators.Link.TheVariants.{Ends, Left, Right}
 use Rattle.expression_reading.specs.Operators.{link_of, top}
-use Rattle.expression_reading.specs.Reading.{is_word, is_dot, is_plus}
+use Rattle.expression_reading.specs.Reading.{is_word, is_dot}
 
 pub data Want : Type 0 where
   -- an operand: its side, its number, its level

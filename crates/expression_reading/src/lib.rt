@@ -5,4 +5,4 @@ mod levels;
 mod operators;
 
 pub use levels::deeper;
-pub use operators::{goes_on, Link};
+pub use operators::{Link, goes_on};
