@@ -1,0 +1,4 @@
+//! Reading the expression of a clause.
+#![tactic(auto)]
+
+mod trees;
