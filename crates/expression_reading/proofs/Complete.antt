@@ -27,6 +27,7 @@ use Rattle.reading_core.proofs.Parts.{from_token, from_opens, from_closed}
 use Rattle.expression_reading.specs.declared.operators.Link.TheVariants.{Ends}
 use Rattle.expression_reading.specs.Operators.{sign_of, link_by, link_at, link_of, top}
 use Rattle.expression_reading.specs.Reading.{Below, exprs, link_in, chain_in, steps_in, argument_in, arguments_in, called_by, called_in, step_in, field_in, reach_in, is_word, is_dot, is_plus, is_dot_terminal, is_plus_terminal, first_is, question_in, second_by, second_in, quantified_in, paren_in, group_by, group_in, unary_by, unary_in, operand_in, below}
+use Rattle.expression_reading.specs.Free.{IsFree, NotCalled}
 use Rattle.expression_reading.proofs.Links.{is_of, left_of, left_tier_of, right_tier_of, is_chain_of, implies_of, tier_from_2}
 use Rattle.expression_reading.proofs.Sound.{Is, operand_sound, operand_short}
 use Rattle.expression_reading.proofs.Below.{below_sound}
@@ -90,10 +91,10 @@ link_other side n t s is not = link_signed side n t s is ∙ when_false (tier_of
 
 -- WHAT FOLLOWS
 
--- Nothing that goes on with an operand of the number n comes first.
-abbrev pub IsFree : Bool → ℕ → List Token → Type 0
-IsFree side n [] = Unit {0}
-IsFree side n (t ∷ ts) = ((m : ℕ) → m < n → link_of side m t ≡ Ends) × (is_dot side t ≡ false) × (is_open side t ≡ false)
+
+uncalled : (side : Bool) (t : Token) → is_open side t ≡ false → NotCalled side t
+uncalled true t not = tt {0}
+uncalled false t not = not
 
 pub free_less : (side : Bool) (m n : ℕ) → m ≤ n → (ts : List Token) → IsFree side n ts → IsFree side m ts
 free_less side m n low [] free = tt {0}
@@ -103,17 +104,26 @@ free_less side m n low (t ∷ ts) free = (λ i less. free.0 i (omega arith), fre
 pub free_letter : (side : Bool) (n : ℕ) (t : Token) (ts : List Token) (x : Terminal) → letter t ≡ (side, x) → sign_of x ≡ None → is_dot_terminal x ≡ false → is_open_terminal x ≡ false → IsFree side n (t ∷ ts)
 free_letter side n t ts x is no_sign no_dot no_open =
     let at = at_letter side t x is in
-    (λ m less. ap (λ y. link_at m (sign_of y)) at ∙ ap (link_at m) no_sign, ap is_dot_terminal at ∙ no_dot, ap is_open_terminal at ∙ no_open)
+    (λ m less. ap (λ y. link_at m (sign_of y)) at ∙ ap (link_at m) no_sign, ap is_dot_terminal at ∙ no_dot, uncalled side t (ap is_open_terminal at ∙ no_open))
 
 -- an operator of a higher tier
 free_sign : (side : Bool) (n : ℕ) (t : Token) (ts : List Token) (s : Sign) → letter t ≡ (side, terminal_of_sign s) → suc n < tier_of s → IsFree side n (t ∷ ts)
 free_sign side n t ts s is high =
     let at = at_letter side t (terminal_of_sign s) is in
-    (λ m less. link_other side m t s is (λ same. omega arith), ap is_dot_terminal at ∙ sign_no_dot s, ap is_open_terminal at ∙ sign_no_open s)
+    (λ m less. link_other side m t s is (λ same. omega arith), ap is_dot_terminal at ∙ sign_no_dot s, uncalled side t (ap is_open_terminal at ∙ sign_no_open s))
 
 -- the tokens are this one and others
 pub free_first : (side : Bool) (n : ℕ) (t : Token) (ts us : List Token) → us ≡ t ∷ ts → IsFree side n (t ∷ ts) → IsFree side n us
 free_first side n t ts us is free = subst (λ (vs : List Token). IsFree side n vs) (sym is) free
+
+-- each field of a reach has a token
+pub field_short : Short (first_is (is_plus true)) field_in
+field_short ts =
+    on_bind (IsFirst (is_plus true) ts) _ (expect (is_plus true) ts) _ (on_expect (is_plus true) ts) (λ t rest is.
+    on_bind (IsFirst (is_name true) rest) _ (expect (is_name true) rest) _ (on_expect (is_name true) rest) (λ u rest' is'.
+    let one_ : ts ≡ t ∷ rest = is.1 in
+    let two : rest ≡ u ∷ rest' = is'.1 in
+    omega (arith, ap length one_, ap length two)))
 
 module _ (may : ℕ → List Token → Bool) (test : Test) (cap : ℕ) (counts : Counts may test cap) where
   -- LEVELS
@@ -175,7 +185,7 @@ module _ (may : ℕ → List Token → Bool) (test : Test) (cap : ℕ) (counts :
   -- no `(` comes first
   abbrev NotOpen : Bool → List Token → Type 0
   NotOpen side [] = Unit {0}
-  NotOpen side (t ∷ ts) = is_open side t ≡ false
+  NotOpen side (t ∷ ts) = NotCalled side t
 
   -- behind a name that is not called
   called_plain : (side : Bool) (l : ℕ) (plain : Expr) (with_ : Exprs → Expr) (rest : List Token) → NotOpen side rest → called_in side (At side l) plain with_ rest ≡ steps_in side (At side l) plain rest
@@ -541,7 +551,7 @@ module _ (may : ℕ → List Token → Bool) (test : Test) (cap : ℕ) (counts :
       let at = at_letter side a.first terminal.Dot a.is in (
         suc m,
         a.behind,
-        before_dot e c side l ts m mid x (subst (λ (us : List Token). NotOpen side us) (sym a.parts) (ap is_open_terminal at))
+        before_dot e c side l ts m mid x (subst (λ (us : List Token). NotOpen side us) (sym a.parts) (uncalled side a.first (ap is_open_terminal at)))
             ∙ ap (steps_in side (At side m) e) a.parts ∙ when_true (is_dot side a.first) _ _ (ap is_dot_terminal at) ∙ deeper_at side m (a.first ∷ a.behind) a.behind (λ b. b.step e a.behind) opened,
         z,
       )
@@ -650,14 +660,6 @@ module _ (may : ℕ → List Token → Bool) (test : Test) (cap : ℕ) (counts :
       ∙ ap (λ m. Got (quant_in m all kind i e f) rest) a.is.1) x)
 
   -- REACHES
-
-  field_short : Short (first_is (is_plus true)) field_in
-  field_short ts =
-      on_bind (IsFirst (is_plus true) ts) _ (expect (is_plus true) ts) _ (on_expect (is_plus true) ts) (λ t rest is.
-      on_bind (IsFirst (is_name true) rest) _ (expect (is_name true) rest) _ (on_expect (is_name true) rest) (λ u rest' is'.
-      let one_ : ts ≡ t ∷ rest = is.1 in
-      let two : rest ≡ u ∷ rest' = is'.1 in
-      omega (arith, ap length one_, ap length two)))
 
   more_fields_got : (fs : List Ident) (l : ℕ) (ts : List Token) (k : ℕ) (rest : List Token) (u : Token) (us : List Token) → more_fields fs l ts k rest → rest ≡ u ∷ us → letter u ≡ (true, terminal.CloseParen)
       → repeat (first_is (is_plus true)) field_in ts ≡ Got fs rest

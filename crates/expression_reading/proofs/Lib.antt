@@ -4,3 +4,4 @@ pub mod Links
 pub mod Sound
 pub mod Below
 pub mod Complete
+pub mod Alone

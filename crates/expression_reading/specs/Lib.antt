@@ -3,3 +3,4 @@ pub mod Reading
 pub mod Wants
 pub mod Ends
 pub mod Levels
+pub mod Free

@@ -1,14 +1,10 @@
-ghost use Rattle.std.specs.Prelude.{◌≡◌, suc, false, true, ◌<◌, ◌≤◌};
-ghost use Rattle.java_lex.specs.declared.words.TheConstants.{HAS, INT_SIZE};
-ghost use Rattle.java_tree.specs.Expressions.{place};
-ghost use Rattle.java_tree.specs.Seen.{jml_tree};
-ghost use Rattle.java_tree.specs.Trees.{bin, minus, negation, old as old_lem};
-ghost use Rattle.reading_core.specs.Read.{Got, expect, ◌>>=◌};
-ghost use Rattle.reading_core.specs.Deeper.{bracket, deeper as deeper_in};
+ghost use Rattle.std.specs.Prelude.{◌≡◌, true, ◌<◌, ◌≤◌};
+ghost use Rattle.java_tree.specs.Seen.{jml_node, jml_tree};
+ghost use Rattle.reading_core.specs.Deeper.{bracket};
 ghost use Rattle.reading_core.specs.Gives.{Gives};
 ghost use Rattle.expression_reading.specs.Levels.{readers_of, within_left};
-ghost use Rattle.expression_reading.specs.Operators.{top};
-ghost use Rattle.expression_reading.specs.Reading.{chain_in, group_in, operand_in, paren_in, is_dot, quantified_in, question_in, reach_in, steps_in, unary_in};
+ghost use Rattle.expression_reading.specs.Reading.{chain_in, operand_in, paren_in, quantified_in, question_in, reach_in, unary_in};
+ghost use Rattle.jml_reader.specs.Descent.{bracketed_in, grouped_in, implied_in, negated_in, old_in, reached_in, subtracted_in};
 ghost use Rattle.jml_reader.specs.Reaches.{reach_of};
 
 use crate::reaches::fields;
@@ -70,7 +66,7 @@ fn chain<'a>(alloc: Global, tokens: &'a [Token], left: u8, number: u8, start: Jm
 #[cycle(descent)]
 fn implied<'a>(alloc: Global, tokens: &'a [Token], behind: &'a [Token], left: u8, number: u8, start: JmlTree) -> Result<(JmlTree, &'a [Token]), Stop<'a>>
     requires { number < 8 }
-    ensures { Gives jml_tree result (deeper_in (within_left true left) tokens.now behind.now (λ b. b.operand (suc number) behind.now >>= (λ right rest. Got (bin (place (jml_tree start)) Sign.Implies (jml_tree start) right) rest))) }
+    ensures { Gives jml_tree result (implied_in left number (jml_tree start) tokens.now behind.now) }
 {
     let Some(less) = deeper(left) else {
         return Err(Stop::Deep(tokens));
@@ -111,7 +107,7 @@ fn unary<'a>(alloc: Global, tokens: &'a [Token], left: u8) -> Result<(JmlTree, &
 
 /// A tree without parts.
 fn leaf(at: u32, node: JmlNode) -> JmlTree
-    ensures { result ≡ record { at = at; node = node } }
+    ensures { jml_tree result ≡ jml_node at node }
 {
     JmlTree { at, node }
 }
@@ -119,7 +115,7 @@ fn leaf(at: u32, node: JmlNode) -> JmlTree
 /// The operand behind a `!`, which opens a level.
 #[cycle(descent)]
 fn negated<'a>(alloc: Global, tokens: &'a [Token], at: u32, rest: &'a [Token], left: u8) -> Result<(JmlTree, &'a [Token]), Stop<'a>>
-    ensures { Gives jml_tree result (deeper_in (within_left true left) tokens.now rest.now (λ b. b.operand 0 rest.now >>= (λ e rest. Got (negation at e) rest))) }
+    ensures { Gives jml_tree result (negated_in left at tokens.now rest.now) }
 {
     let Some(less) = deeper(left) else {
         return Err(Stop::Deep(tokens));
@@ -132,7 +128,7 @@ fn negated<'a>(alloc: Global, tokens: &'a [Token], at: u32, rest: &'a [Token], l
 /// The operand behind a `-`, which opens a level.
 #[cycle(descent)]
 fn subtracted<'a>(alloc: Global, tokens: &'a [Token], at: u32, rest: &'a [Token], left: u8) -> Result<(JmlTree, &'a [Token]), Stop<'a>>
-    ensures { Gives jml_tree result (deeper_in (within_left true left) tokens.now rest.now (λ b. b.operand 0 rest.now >>= (λ e rest. Got (minus at e) rest))) }
+    ensures { Gives jml_tree result (subtracted_in left at tokens.now rest.now) }
 {
     let Some(less) = deeper(left) else {
         return Err(Stop::Deep(tokens));
@@ -145,7 +141,7 @@ fn subtracted<'a>(alloc: Global, tokens: &'a [Token], at: u32, rest: &'a [Token]
 /// What stands behind a `(`, which opens a level: a quantifier, or an expression in brackets.
 #[cycle(descent)]
 fn group<'a>(alloc: Global, tokens: &'a [Token], at: u32, rest: &'a [Token], left: u8) -> Result<(JmlTree, &'a [Token]), Stop<'a>>
-    ensures { Gives jml_tree result (deeper_in (within_left true left) tokens.now rest.now (λ b. group_in true (within_left true left) at b rest.now)) }
+    ensures { Gives jml_tree result (grouped_in left at tokens.now rest.now) }
 {
     let Some(less) = deeper(left) else {
         return Err(Stop::Deep(tokens));
@@ -204,7 +200,7 @@ fn quantified<'a>(alloc: Global, at: u32, all: bool, tokens: &'a [Token], less: 
 /// A whole expression in its brackets.
 #[cycle(descent)]
 fn bracketed<'a>(alloc: Global, tokens: &'a [Token], left: u8) -> Result<(JmlTree, &'a [Token]), Stop<'a>>
-    ensures { Gives jml_tree result (bracket true (within_left true left) tokens.now (λ b rest. b.operand (top true) rest)) }
+    ensures { Gives jml_tree result (bracketed_in left tokens.now) }
 {
     let (_open, rest) = open(tokens, true)?;
     let Some(less) = deeper(left) else {
@@ -218,7 +214,7 @@ fn bracketed<'a>(alloc: Global, tokens: &'a [Token], left: u8) -> Result<(JmlTre
 /// `\old` behind its word.
 #[cycle(descent)]
 fn old<'a>(alloc: Global, at: u32, tokens: &'a [Token], left: u8) -> Result<(JmlTree, &'a [Token]), Stop<'a>>
-    ensures { Gives jml_tree result (bracket true (within_left true left) tokens.now (λ b rest. b.operand (top true) rest) >>= (λ e rest. steps_in true (within_left true left) (old_lem at e) rest)) }
+    ensures { Gives jml_tree result (old_in left at tokens.now) }
 {
     let (tree, rest) = bracketed(alloc, tokens, left)?;
     let tree = trees::old(alloc, at, tree)?;
@@ -228,7 +224,7 @@ fn old<'a>(alloc: Global, at: u32, tokens: &'a [Token], left: u8) -> Result<(Jml
 /// A reach behind its word, and what is asked of it.
 #[cycle(descent)]
 fn reached<'a>(alloc: Global, at: u32, tokens: &'a [Token], left: u8) -> Result<(JmlTree, &'a [Token]), Stop<'a>>
-    ensures { Gives jml_tree result (bracket true (within_left true left) tokens.now reach_in >>= (λ r rest. expect (is_dot true) rest >>= (λ _ rest. question_in (within_left true left) at r rest))) }
+    ensures { Gives jml_tree result (reached_in left at tokens.now) }
 {
     let (reach, rest) = reach(alloc, tokens, left)?;
     let Some((token, behind)) = first(rest) else {

@@ -65,7 +65,8 @@ pub fn is_word(token: &Token, bytes: &[u8]) -> bool
 
 /// A name, in a clause (`jml`) or in code, and the tokens behind it. Takes no memory.
 pub fn name(tokens: &[Token], jml: bool) -> Result<(&Token, &[Token]), Stop<'_>>
-    ensures { Gives (λ t. t.now) result (expect (is_name jml) tokens.now) }
+    ensures reads { Gives (λ t. t.now) result (expect (is_name jml) tokens.now) }
+    ensures parts { IfOk result (λ x. tokens.now ≡ x.0.now ∷ x.1.now) }
 {
     let Some((token, rest)) = first(tokens) else {
         return Err(Stop::Wrong(tokens));
@@ -78,7 +79,8 @@ pub fn name(tokens: &[Token], jml: bool) -> Result<(&Token, &[Token]), Stop<'_>>
 
 /// A `(`, in a clause (`jml`) or in code, and the tokens behind it. Takes no memory.
 pub fn open(tokens: &[Token], jml: bool) -> Result<(&Token, &[Token]), Stop<'_>>
-    ensures { Gives (λ t. t.now) result (expect (is_open jml) tokens.now) }
+    ensures reads { Gives (λ t. t.now) result (expect (is_open jml) tokens.now) }
+    ensures parts { IfOk result (λ x. tokens.now ≡ x.0.now ∷ x.1.now) }
 {
     let Some((token, rest)) = first(tokens) else {
         return Err(Stop::Wrong(tokens));
@@ -91,7 +93,8 @@ pub fn open(tokens: &[Token], jml: bool) -> Result<(&Token, &[Token]), Stop<'_>>
 
 /// A `)`, in a clause (`jml`) or in code, and the tokens behind it. Takes no memory.
 pub fn close(tokens: &[Token], jml: bool) -> Result<(&Token, &[Token]), Stop<'_>>
-    ensures { Gives (λ t. t.now) result (expect (is_close jml) tokens.now) }
+    ensures reads { Gives (λ t. t.now) result (expect (is_close jml) tokens.now) }
+    ensures parts { IfOk result (λ x. tokens.now ≡ x.0.now ∷ x.1.now) }
 {
     let Some((token, rest)) = first(tokens) else {
         return Err(Stop::Wrong(tokens));
@@ -104,7 +107,8 @@ pub fn close(tokens: &[Token], jml: bool) -> Result<(&Token, &[Token]), Stop<'_>
 
 /// A comma, in a clause (`jml`) or in code, and the tokens behind it. Takes no memory.
 pub fn comma(tokens: &[Token], jml: bool) -> Result<(&Token, &[Token]), Stop<'_>>
-    ensures { Gives (λ t. t.now) result (expect (is_comma jml) tokens.now) }
+    ensures reads { Gives (λ t. t.now) result (expect (is_comma jml) tokens.now) }
+    ensures parts { IfOk result (λ x. tokens.now ≡ x.0.now ∷ x.1.now) }
 {
     let Some((token, rest)) = first(tokens) else {
         return Err(Stop::Wrong(tokens));
@@ -117,7 +121,8 @@ pub fn comma(tokens: &[Token], jml: bool) -> Result<(&Token, &[Token]), Stop<'_>
 
 /// A semicolon, in a clause (`jml`) or in code, and the tokens behind it. Takes no memory.
 pub fn semicolon(tokens: &[Token], jml: bool) -> Result<(&Token, &[Token]), Stop<'_>>
-    ensures { Gives (λ t. t.now) result (expect (is_semicolon jml) tokens.now) }
+    ensures reads { Gives (λ t. t.now) result (expect (is_semicolon jml) tokens.now) }
+    ensures parts { IfOk result (λ x. tokens.now ≡ x.0.now ∷ x.1.now) }
 {
     let Some((token, rest)) = first(tokens) else {
         return Err(Stop::Wrong(tokens));
