@@ -91,7 +91,6 @@ link_other side n t s is not = link_signed side n t s is ∙ when_false (tier_of
 
 -- WHAT FOLLOWS
 
-
 uncalled : (side : Bool) (t : Token) → is_open side t ≡ false → NotCalled side t
 uncalled true t not = tt {0}
 uncalled false t not = not
