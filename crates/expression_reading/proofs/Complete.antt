@@ -22,6 +22,7 @@ use Rattle.reading_core.specs.Machine.{Test}
 use Rattle.reading_core.specs.Exact.{Decided, Counts}
 use Rattle.reading_core.proofs.Runs.{tested, when_true, when_false}
 use Rattle.reading_core.proofs.ReadLaws.{on_bind, on_weaken, on_expect, IsFirst, Short, expect_got, repeat_got, repeat_end}
+use Rattle.reading_core.proofs.Follows.{bracket_first}
 use Rattle.reading_core.proofs.Tokens.{at_letter}
 use Rattle.reading_core.proofs.Parts.{from_token, from_opens, from_closed}
 use Rattle.expression_reading.specs.declared.operators.Link.TheVariants.{Ends}
@@ -292,7 +293,7 @@ module _ (may : ℕ → List Token → Bool) (test : Test) (cap : ℕ) (counts :
   bracket_got : {A : Type 0} (side : Bool) (p : Phrase) (l : ℕ) (ts rest : List Token) (go : Below → List Token → Read A) (a : A) (x : InBrackets side p l ts rest)
       → go (readers side (suc l)) x.behind ≡ Got a x.mid → bracket side (At side l) ts go ≡ Got a rest
   bracket_got side p l ts rest go a x goes =
-      ap (λ us. bracket side (At side l) us go) x.parts ∙ when_true (is_open side x.open_) _ _ (ap is_open_terminal (at_letter side x.open_ terminal.OpenParen x.is_open_))
+      ap (λ us. bracket side (At side l) us go) x.parts ∙ bracket_first side (At side l) x.open_ x.behind go ∙ when_true (is_open side x.open_) _ _ (ap is_open_terminal (at_letter side x.open_ terminal.OpenParen x.is_open_))
       ∙ closed_got side p l ts rest go a x goes
 
   -- before `)` nothing goes on

@@ -93,8 +93,8 @@ module _ {W : Type 0} (react : W → Token → Act W) (ready : W → Bool) (may 
         deeper_sim react ready may (IsSim side (suc l)) level t ts (suc l) (inn (Operand side n (suc l)) ∷ inn (Chain side n (suc l)) ∷ ws) _ (on_with ws) allows
         (λ b good. follow_then (b.operand n ts) _ (on_with ws) _ (λ right rest. good.chain n _ rest ws) ∙ good.operand n ts (inn (Chain side n (suc l)) ∷ ws))
     link_sim n e t ts ws Right =
-        deeper_sim react ready may (IsSim side (suc l)) level t ts (suc l) (inn (Operand side (suc n) (suc l)) ∷ ws) _ (on_with ws) allows
-        (λ b good. follow_bind (b.operand (suc n) ts) _ (on_with ws) ∙ good.operand (suc n) ts ws)
+        deeper_sim react ready may (IsSim side (suc l)) level t ts (suc l) (inn (Operand side 7 (suc l)) ∷ ws) _ (on_with ws) allows
+        (λ b good. follow_bind (b.operand 7 ts) _ (on_with ws) ∙ good.operand 7 ts ws)
 
     pub chain_sim : (n : ℕ) (e : Expr) (ts : List Token) (ws : List W) → follow (chain_in side level n e ts) (on_with ws) ≡ run react ready may ts (inn (Chain side n l) ∷ ws)
     chain_sim n e [] ws = well (Chain side n l) refl ws
@@ -206,7 +206,7 @@ module _ {W : Type 0} (react : W → Token → Act W) (ready : W → Bool) (may 
   bracketed_sim : (l : ℕ) (level : Option (Level Below)) → Allows (IsSim true (suc l)) may (suc l) level → (ts : List Token) (ws : List W)
       → follow (bracket true level ts (λ b rest. b.operand (top true) rest)) (on_with ws) ≡ run react ready may ts (inn (Bracket l) ∷ ws)
   bracketed_sim l level allows ts ws =
-      bracket_sim react ready may true (IsSim true (suc l)) level (suc l) (inn (Bracket l)) (inn (Operand true (top true) (suc l)) ∷ inn (Close true) ∷ []) ws _ (on_with ws) allows (ready_so (Bracket l))
+      bracket_sim react ready may true (IsSim true (suc l)) level (suc l) (inn (Bracket l)) (inn (Operand true (top true) (suc l)) ∷ inn (Close true) ∷ []) ws (λ b rest. b.operand (top true) rest) (on_with ws) allows (ready_so (Bracket l))
       (λ t. reacts_so (Bracket l) t)
       (λ b us good. follow_same (b.operand (top true) us) _ (on_with (inn (Close true) ∷ ws)) (λ e rest. closing true rest ws) ∙ good.operand (top true) us (inn (Close true) ∷ ws)) ts
 
@@ -215,7 +215,7 @@ module _ {W : Type 0} (react : W → Token → Act W) (ready : W → Bool) (may 
       → ((t : Token) → reacts inn w t ≡ opens_if (is_open side t) (suc l) (inn (Close side) ∷ [])) → (ts : List Token) (ws : List W)
       → follow (bracket {A = Unit {0}} side level ts (λ b rest. Got (tt {0}) rest)) (on_with ws) ≡ run react ready may ts (inn w ∷ ws)
   empty_sim side w l level allows not so ts ws =
-      bracket_sim react ready may side (IsSim side (suc l)) level (suc l) (inn w) (inn (Close side) ∷ []) ws _ (on_with ws) allows (ready_so w ∙ not) (λ t. reacts_so w t ∙ so t) (λ b us good. closing side us ws) ts
+      bracket_sim react ready may side (IsSim side (suc l)) level (suc l) (inn w) (inn (Close side) ∷ []) ws (λ b rest. Got (tt {0}) rest) (on_with ws) allows (ready_so w ∙ not) (λ t. reacts_so w t ∙ so t) (λ b us good. closing side us ws) ts
 
   paren_sim : (side : Bool) (l : ℕ) (level : Option (Level Below)) → Allows (IsSim side (suc l)) may (suc l) level → (at : ℕ) (b : Below) → IsSim side (suc l) b → (ts : List Token) (ws : List W)
       → follow (paren_in side level at b ts) (on_with ws) ≡ run react ready may ts (inn (Operand side (top side) (suc l)) ∷ inn (Close side) ∷ inn (Steps side l) ∷ ws)

@@ -20,6 +20,7 @@ use Rattle.reading_core.specs.Machine.{Test}
 use Rattle.reading_core.specs.Follow.{Allows}
 use Rattle.reading_core.specs.Exact.{Decided}
 use Rattle.reading_core.proofs.ReadLaws.{on_bind, on_weaken, on_expect, on_deeper, IsFirst, Short, on_repeat}
+use Rattle.reading_core.proofs.Follows.{bracket_first}
 use Rattle.reading_core.proofs.Tokens.{letter_at, name_letter, open_letter, close_letter, comma_letter, semicolon_letter, name_kind, number_kind, letter_terminal}
 use Rattle.reading_core.proofs.Keeps.{phrase_keeps, shorter}
 use Rattle.expression_reading.specs.declared.operators.Link.{Link}
@@ -166,7 +167,7 @@ module _ (may : Test) where
     link_sound n e l0 ts0 t ts part Right is =
         let (six, letter_is) = right_link side n t is in
         on_deeper _ (IsSound side (suc l)) may (suc l) level (t ∷ ts) ts _ allows (λ b good opened.
-        on_bind (Some_ side (suc (suc n)) (suc l) ts) _ (b.operand (suc n) ts) _ (good.operand (suc n) ts) (λ right rest x. (
+        on_bind (Some_ side 8 (suc l) ts) _ (b.operand 7 ts) _ (good.operand 7 ts) (λ right rest x. (
           suc l,
           (
             omega (arith, six),
@@ -176,7 +177,7 @@ module _ (may : Test) where
                 l,
                 t ∷ ts,
                 left six part,
-                (l, ts, (t, letter_is, refl, refl), (suc l, ts, (refl, opened, refl), (x.0, subst (λ (m : ℕ). Is right side (suc (suc m)) (suc l) ts x.0 rest) six x.1, refl))),
+                (l, ts, (t, letter_is, refl, refl), (suc l, ts, (refl, opened, refl), (x.0, x.1, refl))),
               ),
             ),
           ),
@@ -263,7 +264,7 @@ module _ (may : Test) where
       → ((b : Below) → IsSound side (suc l) b → (us : List Token) → OnGot (λ a rest. q a (suc l) us (suc l) rest) (go b us)) → (ts : List Token)
       → OnGot (λ a rest. bracketed (Decided may) side (q a) l ts l rest) (bracket side level ts go)
   bracket_sound side l level allows q go goes [] = tt {0}
-  bracket_sound {A = A} side l level allows q go goes (t ∷ ts) = by (is_open side t) refl
+  bracket_sound {A = A} side l level allows q go goes (t ∷ ts) = subst (OnGot (λ a rest. bracketed (Decided may) side (q a) l (t ∷ ts) l rest)) (sym (bracket_first side level t ts go)) (by (is_open side t) refl)
     where
       by : (opens_ : Bool) → is_open side t ≡ opens_
           → OnGot (λ a rest. bracketed (Decided may) side (q a) l (t ∷ ts) l rest) (elim opens_ as (λ _. Read A) [ true ↦ enclosed side level t ts go | false ↦ Bad (t ∷ ts) ])

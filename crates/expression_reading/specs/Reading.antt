@@ -60,7 +60,7 @@ first_is is (t ∷ ts) = is t
 abbrev pub link_in : Option (Level Below) → ℕ → Expr → Token → List Token → Link → Read Expr
 link_in level n e t ts Ends = Got e (t ∷ ts)
 link_in level n e t ts (Left s) = deeper level (t ∷ ts) ts (λ b. b.operand n ts >>= (λ right rest. b.chain n (bin (place e) s e right) rest))
-link_in level n e t ts Right = deeper level (t ∷ ts) ts (λ b. b.operand (suc n) ts >>= (λ right rest. Got (bin (place e) Implies e right) rest))
+link_in level n e t ts Right = deeper level (t ∷ ts) ts (λ b. b.operand 7 ts >>= (λ right rest. Got (bin (place e) Implies e right) rest))
 
 abbrev pub chain_in : Bool → Option (Level Below) → ℕ → Expr → List Token → Read Expr
 chain_in side level n e [] = Got e []

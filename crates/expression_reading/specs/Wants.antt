@@ -89,7 +89,7 @@ module _ {W : Type 0} (inn : Want → W) where
   abbrev pub goes_on : Bool → ℕ → ℕ → Link → Act W
   goes_on side n l Ends = Leave
   goes_on side n l (Left s) = Open (suc l) (inn (Operand side n (suc l)) ∷ inn (Chain side n (suc l)) ∷ [])
-  goes_on side n l Right = Open (suc l) (inn (Operand side (suc n) (suc l)) ∷ [])
+  goes_on side n l Right = Open (suc l) (inn (Operand side 7 (suc l)) ∷ [])
 
   abbrev pub steps_on : Bool → ℕ → Bool → Act W
   steps_on side l true = Open (suc l) (inn (Step side (suc l)) ∷ [])

@@ -19,8 +19,8 @@ fields_in start ts = repeat (first_is (is_plus true)) field_in ts >>= (λ is res
 -- ts: the tokens from the first of the part on; rest: those behind it; left: the levels that are left
 
 -- `==>` and what stands behind it
-abbrev pub implied_in : ℕ → ℕ → Expr → List Token → List Token → Read Expr
-implied_in left number start ts rest = deeper (within_left true left) ts rest (λ b. b.operand (suc number) rest >>= (λ right rest. Got (bin (place start) Implies start right) rest))
+abbrev pub implied_in : ℕ → Expr → List Token → List Token → Read Expr
+implied_in left start ts rest = deeper (within_left true left) ts rest (λ b. b.operand 7 rest >>= (λ right rest. Got (bin (place start) Implies start right) rest))
 
 -- `!` and its operand
 abbrev pub negated_in : ℕ → ℕ → List Token → List Token → Read Expr

@@ -20,6 +20,9 @@ use std::alloc::Global;
 /// The number of a whole expression of a clause.
 pub(crate) const TOP: u8 = 8;
 
+/// The number of an operand of `==>` on its right.
+const IMPLIED: u8 = 7;
+
 /// An operand of the number: from the unary operators (0) to a whole expression (8).
 #[cycle(descent)]
 pub(crate) fn operand<'a>(alloc: Global, tokens: &'a [Token], left: u8, number: u8) -> Result<(JmlTree, &'a [Token]), Stop<'a>>
@@ -56,7 +59,7 @@ fn chain<'a>(alloc: Global, tokens: &'a [Token], left: u8, number: u8, start: Jm
                 rest = after;
                 levels = less;
             }
-            Link::Right => return implied(alloc, rest, behind, levels, number, tree),
+            Link::Right => return implied(alloc, rest, behind, levels, tree),
         }
     }
     Ok((tree, rest))
@@ -64,14 +67,13 @@ fn chain<'a>(alloc: Global, tokens: &'a [Token], left: u8, number: u8, start: Jm
 
 /// An operand behind `==>`, which opens a level.
 #[cycle(descent)]
-fn implied<'a>(alloc: Global, tokens: &'a [Token], behind: &'a [Token], left: u8, number: u8, start: JmlTree) -> Result<(JmlTree, &'a [Token]), Stop<'a>>
-    requires { number < 8 }
-    ensures { Gives jml_tree result (implied_in left number (jml_tree start) tokens.now behind.now) }
+fn implied<'a>(alloc: Global, tokens: &'a [Token], behind: &'a [Token], left: u8, start: JmlTree) -> Result<(JmlTree, &'a [Token]), Stop<'a>>
+    ensures { Gives jml_tree result (implied_in left (jml_tree start) tokens.now behind.now) }
 {
     let Some(less) = deeper(left) else {
         return Err(Stop::Deep(tokens));
     };
-    let (right, rest) = operand(alloc, behind, less, number + 1)?;
+    let (right, rest) = operand(alloc, behind, less, IMPLIED)?;
     let tree = trees::bin(alloc, Sign::Implies, start, right)?;
     Ok((tree, rest))
 }

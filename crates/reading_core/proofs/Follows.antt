@@ -25,6 +25,16 @@ pub follow_then : {A B : Type 0} (r : Read A) (f : A → List Token → Read B) 
     → ((a : A) (rest : List Token) → follow (f a rest) go_on ≡ mid a rest) → follow (r >>= f) go_on ≡ follow r mid
 follow_then r f go_on mid same = follow_bind r f go_on ∙ follow_same r _ mid same
 
+bracket_at : {A : Type 0} (t : Token) (ts : List Token) (f : Token → List Token → Read A) (b : Bool)
+    → elim b as (λ _. Read Token) [ true ↦ Got t ts | false ↦ Bad (t ∷ ts) ] >>= f ≡ elim b as (λ _. Read A) [ true ↦ f t ts | false ↦ Bad (t ∷ ts) ]
+bracket_at t ts f true = refl
+bracket_at t ts f false = refl
+
+-- brackets, by their first token
+pub bracket_first : {R A : Type 0} (side : Bool) (level : Option (Level R)) (t : Token) (ts : List Token) (go : R → List Token → Read A)
+    → bracket side level (t ∷ ts) go ≡ elim (is_open side t) as (λ _. Read A) [ true ↦ enclosed side level t ts go | false ↦ Bad (t ∷ ts) ]
+bracket_first side level t ts go = bracket_at t ts (λ t rest. enclosed side level t rest go) (is_open side t)
+
 module _ {W : Type 0} (react : W → Token → Act W) (ready : W → Bool) (may : Test) where
   -- what is not at its end where the tokens are
   pub ends_early : (w : W) → ready w ≡ false → (ws : List W) → Fine false ≡ run react ready may [] (w ∷ ws)
@@ -91,4 +101,4 @@ module _ {W : Type 0} (react : W → Token → Act W) (ready : W → Bool) (may 
       → (ts : List Token) → follow (bracket side level ts go) go_on ≡ run react ready may ts (w ∷ ws)
   bracket_sim side P level k w more ws go go_on allows not reacts goes [] = ends_early w not ws
   bracket_sim side P level k w more ws go go_on allows not reacts goes (t ∷ ts) =
-      bracket_by side P level k more ws go go_on allows t ts (λ r good. goes r ts good) (is_open side t) (step react ready t ws) ∙ at_first w (opens_if (is_open side t) k more) t (reacts t) ts ws
+      ap (λ r. follow r go_on) (bracket_first side level t ts go) ∙ bracket_by side P level k more ws go go_on allows t ts (λ r good. goes r ts good) (is_open side t) (step react ready t ws) ∙ at_first w (opens_if (is_open side t) k more) t (reacts t) ts ws

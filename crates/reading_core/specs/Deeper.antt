@@ -19,8 +19,7 @@ enclosed side level t ts go = deeper level (t ∷ ts) ts (λ r. go r ts >>= (λ 
 
 -- the same with its `(`
 abbrev pub bracket : {R A : Type 0} → Bool → Option (Level R) → List Token → (R → List Token → Read A) → Read A
-bracket side level [] go = Bad []
-bracket side level (t ∷ ts) go = elim (is_open side t) [ true ↦ enclosed side level t ts go | false ↦ Bad (t ∷ ts) ]
+bracket side level ts go = expect (is_open side) ts >>= (λ t rest. enclosed side level t rest go)
 
 -- every level may be opened
 abbrev pub always : ℕ → List Token → Bool
