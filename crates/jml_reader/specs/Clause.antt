@@ -1,5 +1,5 @@
 -- What reading the expression of a clause answers.
-use Rattle.std.specs.Prelude.{◌≡◌, ℕ, ◌-◌, ◌≤◌, List, [], ◌∷◌, drop, length, Option, Some, None, Result, Ok, Err}
+use Rattle.std.specs.Prelude.{◌≡◌, ℕ, ◌-◌, ◌≤◌, List, [], ◌∷◌, drop, length, Option, Some, None, MatchOption, Result, Ok, Err}
 use Rattle.java_lex.specs.declared.token.Token.{Token}
 use Rattle.java_lex.specs.declared.token.TokenKind.TheVariants.{End}
 use Rattle.java_lex.specs.declared.spelling.Absent.{Absent}
@@ -45,3 +45,13 @@ Reads (Err (Syntax at)) e place = ⊥
 Reads (Err (Unsupported part at)) e place = ⊥
 Reads (Err (Deep at)) e place = ⊥
 Reads (Err NoMemory) e place = Unit {0}
+
+-- the fault of a token with which no expression begins
+abbrev pub WrongOf : List Token → SyntaxFault → Type 0
+WrongOf [] fault = Unit {0}
+WrongOf (t ∷ ts) fault = MatchOption (absent t) (fault ≡ Syntax t.from) (λ part. fault ≡ Unsupported part t.from)
+
+-- the fault of a token that opens a level too many
+abbrev pub DeepOf : List Token → SyntaxFault → Type 0
+DeepOf [] fault = Unit {0}
+DeepOf (t ∷ ts) fault = fault ≡ Deep t.from

@@ -1,5 +1,8 @@
-ghost use Rattle.std.specs.Prelude.{◌≡◌, ◌<◌, length};
-ghost use Rattle.jml_reader.specs.Clause.{Answers};
+ghost use Rattle.std.specs.Prelude.{◌≡◌, ◌<◌, ◌-◌, List, drop, length, true};
+ghost use Rattle.java_lex.specs.declared.token.Token.{Token as TokenOf};
+ghost use Rattle.java_tree.specs.Trees.{Expr};
+ghost use Rattle.expression_reading.specs.Free.{IsFree};
+ghost use Rattle.jml_reader.specs.Clause.{Answers, IsClause, IsEnded, Reads, WrongOf, DeepOf};
 
 use crate::descent::{TOP, operand};
 use crate::fault::SyntaxFault;
@@ -9,9 +12,13 @@ use reading_core::{LEVELS, Stop, first};
 use std::alloc::Global;
 
 /// Reads the expression of a clause from the token number `from` on, and answers its tree and the number of the
-/// first token behind it. Linear in the tokens that are read.
+/// first token with which no expression begins. The tokens are those of a text, so the last one is its end. Linear
+/// in the tokens that are read. (JML Reference Manual, "Predicates and Specification Expressions".)
 pub fn clause(alloc: Global, tokens: &[Token], from: usize) -> Result<(JmlTree, usize), SyntaxFault>
-    requires { from < length tokens.now }
+    requires in_range { from < length tokens.now }
+    requires ended { IsEnded tokens.now }
+    ensures answers { Answers tokens.now from result }
+    ensures reads { (e : Expr) (rest : List TokenOf) → IsClause e (drop from tokens.now) rest → IsFree true 8 rest → Reads result e (length tokens.now - length rest) }
 {
     let (_front, here) = tokens.split_at(from);
     match operand(alloc, here, LEVELS, TOP) {
@@ -23,7 +30,9 @@ pub fn clause(alloc: Global, tokens: &[Token], from: usize) -> Result<(JmlTree, 
 }
 
 /// The fault of the first of the tokens, with which no expression begins.
-fn wrong(tokens: &[Token]) -> SyntaxFault {
+fn wrong(tokens: &[Token]) -> SyntaxFault
+    ensures { WrongOf tokens.now result }
+{
     let Some((token, _behind)) = first(tokens) else {
         return SyntaxFault::Syntax { at: 0 };
     };
@@ -37,7 +46,9 @@ fn wrong(tokens: &[Token]) -> SyntaxFault {
 }
 
 /// The fault of the first of the tokens, which opens a level too many.
-fn deep(tokens: &[Token]) -> SyntaxFault {
+fn deep(tokens: &[Token]) -> SyntaxFault
+    ensures { DeepOf tokens.now result }
+{
     match first(tokens) {
         Some((token, _behind)) => SyntaxFault::Deep { at: token.from },
         None => SyntaxFault::Deep { at: 0 },
