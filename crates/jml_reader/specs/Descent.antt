@@ -1,16 +1,16 @@
 -- What the parts of the descent read, in the words of reading.
-use Rattle.std.specs.Prelude.{ℕ, suc, true, List, ◌∷◌}
+use Rattle.std.specs.Prelude.{ℕ, Bool, true, List, ◌∷◌}
 use Rattle.java_lex.specs.declared.token.Token.{Token}
 use Rattle.java_tree.specs.declared.expressions.Sign.TheVariants.{Implies}
 use Rattle.java_tree.specs.declared.names.Ident.{Ident}
-use Rattle.java_tree.specs.Trees.{Expr, bin, minus, negation, old}
+use Rattle.java_tree.specs.Trees.{Expr, bin, minus, negation, old, quant_in}
 use Rattle.java_tree.specs.Expressions.{place}
-use Rattle.reading_core.specs.Read.{Read, Got, expect, ◌>>=◌}
+use Rattle.reading_core.specs.Read.{Read, Got, expect, is_close, ◌>>=◌}
 use Rattle.reading_core.specs.Deeper.{bracket, deeper}
 use Rattle.reading_core.specs.Loops.{repeat}
 use Rattle.expression_reading.specs.Levels.{within_left}
 use Rattle.expression_reading.specs.Operators.{top}
-use Rattle.expression_reading.specs.Reading.{field_in, first_is, group_in, is_dot, is_plus, question_in, reach_in, steps_in}
+use Rattle.expression_reading.specs.Reading.{field_in, first_is, group_in, is_dot, is_plus, operand_in, question_in, reach_in, steps_in}
 
 -- the fields of a reach, behind the first one
 abbrev pub fields_in : Ident → List Token → Read (List Ident)
@@ -45,3 +45,12 @@ old_in left at ts = bracketed_in left ts >>= (λ e rest. steps_in true (within_l
 -- a reach behind its word
 abbrev pub reached_in : ℕ → ℕ → List Token → Read Expr
 reached_in left at ts = bracket true (within_left true left) ts reach_in >>= (λ r rest. expect (is_dot true) rest >>= (λ _ rest. question_in (within_left true left) at r rest))
+
+-- empty brackets
+abbrev pub empty_in : ℕ → List Token → Read (Unit {0})
+empty_in left ts = bracket true (within_left true left) ts (λ b rest. Got (tt {0}) rest)
+
+-- JExpr ")", behind the range of a quantifier and its `;`
+abbrev pub ranged_in : ℕ → ℕ → Bool → Ident → Ident → Expr → List Token → Read Expr
+ranged_in less at all kind i range ts =
+    operand_in true (within_left true less) (top true) ts >>= (λ body rest. expect (is_close true) rest >>= (λ _ rest'. Got (quant_in at all kind i range body) rest'))

@@ -3,8 +3,8 @@ ghost use Rattle.java_tree.specs.Seen.{jml_node, jml_tree};
 ghost use Rattle.reading_core.specs.Deeper.{bracket};
 ghost use Rattle.reading_core.specs.Gives.{Gives};
 ghost use Rattle.expression_reading.specs.Levels.{readers_of, within_left};
-ghost use Rattle.expression_reading.specs.Reading.{chain_in, operand_in, paren_in, quantified_in, question_in, reach_in, unary_in};
-ghost use Rattle.jml_reader.specs.Descent.{bracketed_in, grouped_in, implied_in, negated_in, old_in, reached_in, subtracted_in};
+ghost use Rattle.expression_reading.specs.Reading.{chain_in, operand_in, paren_in, quantified_in, question_in, is_word as is_word_in, reach_in, unary_in};
+ghost use Rattle.jml_reader.specs.Descent.{bracketed_in, empty_in, grouped_in, implied_in, negated_in, old_in, ranged_in, reached_in, subtracted_in};
 ghost use Rattle.jml_reader.specs.Reaches.{reach_of};
 
 use crate::reaches::fields;
@@ -13,7 +13,7 @@ use crate::trees;
 use expression_reading::{Link, deeper, goes_on};
 use java_lex::words::{HAS, INT_SIZE};
 use java_lex::{Terminal, Token};
-use java_tree::{JmlNode, JmlTree, ReachTree, Sign};
+use java_tree::{Ident, JmlNode, JmlTree, ReachTree, Sign};
 use reading_core::{Stop, close, comma, first, ident, is_word, name, number, open, semicolon, terminal_at};
 use std::alloc::Global;
 
@@ -185,18 +185,24 @@ fn quantified<'a>(alloc: Global, at: u32, all: bool, tokens: &'a [Token], less: 
         return Err(Stop::Wrong(rest));
     };
     match terminal_at(token, true) {
-        Terminal::Semicolon => {
-            let (body, rest) = operand(alloc, behind, less, TOP)?;
-            let (_close, rest) = close(rest, true)?;
-            let tree = trees::quantifier_in(alloc, at, all, class, variable, tree, body)?;
-            Ok((tree, rest))
-        }
+        Terminal::Semicolon => ranged(alloc, at, all, class, variable, tree, behind, less),
         Terminal::CloseParen => {
             let tree = trees::quantifier(alloc, at, all, class, variable, tree)?;
             Ok((tree, behind))
         }
         _ => Err(Stop::Wrong(rest)),
     }
+}
+
+/// The body of a quantifier with a range, behind its second `;`; its level is open.
+#[cycle(descent)]
+fn ranged<'a>(alloc: Global, at: u32, all: bool, class: Ident, variable: Ident, range: JmlTree, tokens: &'a [Token], less: u8) -> Result<(JmlTree, &'a [Token]), Stop<'a>>
+    ensures { Gives jml_tree result (ranged_in less at all class variable (jml_tree range) tokens.now) }
+{
+    let (body, rest) = operand(alloc, tokens, less, TOP)?;
+    let (_close, rest) = close(rest, true)?;
+    let tree = trees::quantifier_in(alloc, at, all, class, variable, range, body)?;
+    Ok((tree, rest))
 }
 
 /// A whole expression in its brackets.
@@ -247,7 +253,17 @@ fn reach<'a>(alloc: Global, tokens: &'a [Token], left: u8) -> Result<(ReachTree,
     let Some(less) = deeper(left) else {
         return Err(Stop::Deep(tokens));
     };
-    let (root, rest) = operand(alloc, rest, less, TOP)?;
+    let (reach, rest) = inside(alloc, rest, less)?;
+    let (_close, rest) = close(rest, true)?;
+    Ok((reach, rest))
+}
+
+/// What stands in the brackets of a reach; their level is open.
+#[cycle(descent)]
+fn inside<'a>(alloc: Global, tokens: &'a [Token], less: u8) -> Result<(ReachTree, &'a [Token]), Stop<'a>>
+    ensures { Gives reach_of result (reach_in (readers_of true less) tokens.now) }
+{
+    let (root, rest) = operand(alloc, tokens, less, TOP)?;
     let (_comma, rest) = comma(rest, true)?;
     let (class, rest) = name(rest, true)?;
     let (_comma, rest) = comma(rest, true)?;
@@ -255,7 +271,6 @@ fn reach<'a>(alloc: Global, tokens: &'a [Token], left: u8) -> Result<(ReachTree,
     let class = ident(alloc, class)?;
     let field = ident(alloc, field)?;
     let (fields, rest) = fields(alloc, rest, field)?;
-    let (_close, rest) = close(rest, true)?;
     let reach = trees::reach(alloc, root, class, fields)?;
     Ok((reach, rest))
 }
@@ -265,19 +280,39 @@ fn reach<'a>(alloc: Global, tokens: &'a [Token], left: u8) -> Result<(ReachTree,
 fn question<'a>(alloc: Global, at: u32, reach: ReachTree, tokens: &'a [Token], left: u8) -> Result<(JmlTree, &'a [Token]), Stop<'a>>
     ensures { Gives jml_tree result (question_in (within_left true left) at (reach_of reach) tokens.now) }
 {
-    let (word, rest) = name(tokens, true)?;
-    if is_word(word, HAS) {
+    let Some((word, rest)) = first(tokens) else {
+        return Err(Stop::Wrong(tokens));
+    };
+    if asks(word, HAS) {
         let (object, rest) = bracketed(alloc, rest, left)?;
         let tree = trees::has(alloc, at, reach, object)?;
         Ok((tree, rest))
-    } else if is_word(word, INT_SIZE) {
-        let (_open, behind) = open(rest, true)?;
-        if deeper(left).is_none() {
-            return Err(Stop::Deep(rest));
-        }
-        let (_close, rest) = close(behind, true)?;
+    } else if asks(word, INT_SIZE) {
+        let ((), rest) = empty(rest, left)?;
         Ok((trees::size(at, reach), rest))
     } else {
         Err(Stop::Wrong(tokens))
     }
+}
+
+/// Whether the token is a name of these bytes.
+fn asks(token: &Token, bytes: &[u8]) -> bool
+    ensures { result ≡ is_word_in bytes.now token.now }
+{
+    match terminal_at(token, true) {
+        Terminal::Name => is_word(token, bytes),
+        _ => false,
+    }
+}
+
+/// Empty brackets.
+fn empty(tokens: &[Token], left: u8) -> Result<((), &[Token]), Stop<'_>>
+    ensures { Gives (λ _. tt {0}) result (empty_in left tokens.now) }
+{
+    let (_open, rest) = open(tokens, true)?;
+    if deeper(left).is_none() {
+        return Err(Stop::Deep(tokens));
+    }
+    let (_close, rest) = close(rest, true)?;
+    Ok(((), rest))
 }

@@ -18,9 +18,9 @@ stopped (stop.Deep rest) start all names ts so is gives = so ∙ field_deep name
 
 pub returns-in_err-name : goal.returns-in_err-name
 returns-in_err-name c =
-    let same : c.from_residual-in_err-name.result ≡ Err c.in_err-name.field-0 = search rules in
+    let same : c.from_residual-in_err-name.result ≡ Err c.in_err-name.field-0.0 = search rules in
     subst (λ (r : Result (Vec Ident Global × Bor (List Token)) Stop). Gives (λ v. v.items) r (fields_in c.args.start c.args.tokens.now)) (sym same)
-    (stopped c.in_err-name.field-0 c.args.start c.args.tokens.now c.fields.names.items c.fields.rest.now c.fields.invariant (sym c.is_field.ensures ∙ c.fields-test.true) c.in_err-name.ensures.reads)
+    (stopped c.in_err-name.field-0.0 c.args.start c.args.tokens.now c.fields.names.items c.fields.rest.now c.fields.invariant (sym c.is_field.ensures ∙ c.fields-test.true) c.in_err-name.ensures.reads)
 
 pub fields-preserved : goal.fields-preserved
 fields-preserved c =
