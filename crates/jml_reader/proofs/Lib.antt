@@ -1,3 +1,3 @@
 pub mod Fields
 pub mod Operands
-pub mod Clauses
+pub mod Answered
