@@ -1,0 +1,5 @@
+//! The reader of statements.
+#![tactic(auto)]
+
+/// Nothing yet.
+pub fn nothing_yet() {}
