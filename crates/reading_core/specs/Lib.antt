@@ -1,0 +1,6 @@
+pub mod Read
+pub mod Deeper
+pub mod Loops
+pub mod Machine
+pub mod Endings
+pub mod Follow

@@ -1,0 +1,11 @@
+//! What the readers of clauses and of texts share: the result of reading, the machine that tells what begins a
+//! text, and the walk over tokens.
+#![tactic(auto)]
+
+mod cursor;
+mod levels;
+mod stop;
+
+pub use cursor::{first, ident, is_word, number, terminal_at};
+pub use levels::{LEVELS, lower};
+pub use stop::Stop;
