@@ -3,22 +3,14 @@ use Rattle.std.proofs.Common.{◌≡◌, ◌⊎◌, ℕ, zero, suc, ◌+◌, ◌
 use Rattle.java_lex.specs.declared.token.Token.{Token}
 use Rattle.java_tree.specs.Phrases.{Phrase, Limit, ◌▸◌, nothing, token, opens, closed}
 use Rattle.java_tree.specs.Reading.{within_before}
-use Rattle.statement_reader.specs.Read.{Read, Got, Bad, Deep, then}
-use Rattle.statement_reader.proofs.Law.{Family, Extends, never, any, head, Allows, Frees, Stops, Sample, IsGot, IsBad, IsDeep, Begun, Law, Exact}
-use Rattle.statement_reader.proofs.Seq.{head_append, seq, with_first, pair_is}
+use Rattle.reading_core.specs.Read.{Read, Got, Bad, Deep, ◌>>=◌}
+use Rattle.statement_reader.specs.Readers.{Reader, head, give, with_first, and_then, taken, deeper_by, opening, repeat_by, repeat, optional}
+use Rattle.statement_reader.proofs.Law.{Family, Extends, never, any, Allows, Frees, Stops, Sample, IsGot, IsBad, IsDeep, Begun, Law, Exact}
+use Rattle.statement_reader.proofs.Seq.{head_append, seq, pair_is}
 use Rattle.statement_reader.proofs.Parts.{Decided, token_by, heads, tails}
 
 abbrev pub opened : {A B : Type 0} → (A → Token → Type 0) → Family B → Family (A × B)
 opened P body May ab = closed (token (P ab.0) ▸ opens May ▸ body May ab.1)
-
--- below: the reader one level deeper, if there is one
-abbrev pub deeper_by : {A B : Type 0} → Option (List Token → Read B) → A → Token → List Token → Read (A × B)
-deeper_by None a t ts = Deep (t ∷ ts)
-deeper_by (Some read) a t ts = with_first a (read ts)
-
-abbrev pub opening : {A B : Type 0} → (Token → Bool) → (Token → A) → Option (List Token → Read B) → List Token → Read (A × B)
-opening test value below [] = Bad []
-opening test value below (t ∷ ts) = elim (test t) [ true ↦ deeper_by below (value t) t ts | false ↦ Bad (t ∷ ts) ]
 
 -- There is a reader one level deeper exactly below 64 levels, and it is exact.
 pub data Below (B : Type 0) (body : Family B) (X S : Extends B) (l : ℕ) : Option (List Token → Read B) → Type 1 where
@@ -88,6 +80,7 @@ module _ (A B : Type 0) (P : A → Token → Type 0) (test : Token → Bool) (va
   by_body t ts passes (Got b rest) may law = record {
     front = t ∷ law.front;
     parts = ap (λ v. t ∷ v) law.parts;
+    plain = (decided.plain t passes, law.plain);
     sound = λ May allows c. opens_body May t (value t) b (law.front ++ c) (suc l) c (decided.is t passes) (allows (suc l) (law.front ++ c) (inl may)) (law.sound May allows c);
     stop = law.stop;
     only = λ May c h ab k r parse. at_body May c h ab k r (opened_body May t ab (law.front ++ c) k r parse);
@@ -100,6 +93,7 @@ module _ (A B : Type 0) (P : A → Token → Type 0) (test : Token → Bool) (va
   by_body t ts passes (Bad rest) may law = record {
     front = t ∷ law.front;
     parts = ap (λ v. t ∷ v) law.parts;
+    plain = (decided.plain t passes, law.plain);
     before = record {
       more = law.before.more;
       tree = (value t, law.before.tree);
@@ -113,6 +107,7 @@ module _ (A B : Type 0) (P : A → Token → Type 0) (test : Token → Bool) (va
     behind = law.behind;
     here = law.here;
     parts = ap (λ v. t ∷ v) law.parts;
+    plain = (decided.plain t passes, law.plain);
     before = record {
       more = law.before.more;
       tree = (value t, law.before.tree);
@@ -124,13 +119,14 @@ module _ (A B : Type 0) (P : A → Token → Type 0) (test : Token → Bool) (va
     deeper = λ May c all. opens_body May t (value t) law.tree (law.front ++ law.at ∷ (law.more ++ c)) (suc l) c (decided.is t passes) (all (suc l) (law.front ++ law.at ∷ (law.more ++ c))) (law.deeper May c all);
   }
 
-  by_level : (t : Token) (ts : List Token) → test t ≡ true → (below : Option (List Token → Read B)) → Below B body X S l below → Law (A × B) O OX OS l (t ∷ ts) (deeper_by below (value t) t ts)
+  pub by_level : (t : Token) (ts : List Token) → test t ≡ true → (below : Option (List Token → Read B)) → Below B body X S l below → Law (A × B) O OX OS l (t ∷ ts) (deeper_by below (value t) t ts)
   by_level t ts passes None (full many) = record {
     front = [];
     at = t;
     behind = ts;
     here = refl;
     parts = refl;
+    plain = tt;
     before = begun_none (t ∷ ts);
     only = λ May c stops ab k r parse. absurd (too_many (stops (suc l) c (omega arith) (opened_body May t ab c k r parse).1));
     more = s.tokens;
@@ -151,6 +147,7 @@ module _ (A B : Type 0) (P : A → Token → Type 0) (test : Token → Bool) (va
   by_test below exact t ts false fails = record {
     front = [];
     parts = refl;
+    plain = tt;
     before = begun_none (t ∷ ts);
     only = λ May c h ab k r parse. absurd (none_begins t fails (Some t) refl May c h ab k r parse);
   }
@@ -159,6 +156,7 @@ module _ (A B : Type 0) (P : A → Token → Type 0) (test : Token → Bool) (va
   opening_law below exact [] = record {
     front = [];
     parts = refl;
+    plain = tt;
     before = begun_none [];
     only = λ May c h ab k r parse. absurd (none_empty May c h ab k r parse);
   }

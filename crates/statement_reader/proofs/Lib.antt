@@ -3,3 +3,14 @@ pub mod Seq
 pub mod Parts
 pub mod Levels
 pub mod Many
+pub mod TokenLaws
+pub mod Starts
+pub mod Shapes
+pub mod ModifierLaws
+pub mod DeclarationLaws
+pub mod Tails
+pub mod PlaceLaws
+pub mod StatementLaws
+pub mod Beginnings
+pub mod StatementExact
+pub mod StatementLaw

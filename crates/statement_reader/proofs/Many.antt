@@ -3,20 +3,16 @@ use Rattle.std.proofs.Common.{◌≡◌, ◌⊎◌, ℕ, zero, suc, ◌+◌, ◌
 use Rattle.java_lex.specs.declared.token.Token.{Token}
 use Rattle.java_tree.specs.Phrases.{Phrase, Limit, ◌▸◌, nothing, token, opens, closed}
 use Rattle.java_tree.specs.Reading.{within_before, any_level}
-use Rattle.statement_reader.specs.Read.{Read, Got, Bad, Deep, then}
-use Rattle.statement_reader.proofs.Law.{Family, Extends, never, any, head, Allows, Frees, Stops, Sample, IsGot, IsBad, IsDeep, Begun, Law, Exact}
-use Rattle.statement_reader.proofs.Seq.{head_append, seq, with_first, pair_is, and_then, seq_law}
-use Rattle.statement_reader.proofs.Parts.{give, give_law}
+use Rattle.reading_core.specs.Read.{Read, Got, Bad, Deep, ◌>>=◌}
+use Rattle.statement_reader.specs.Readers.{Reader, head, give, with_first, and_then, taken, deeper_by, opening, repeat_by, repeat, optional}
+use Rattle.statement_reader.proofs.Law.{Family, Extends, never, any, Allows, Frees, Stops, Sample, IsGot, IsBad, IsDeep, Begun, Law, Exact}
+use Rattle.statement_reader.proofs.Seq.{head_append, seq, pair_is, seq_law}
+use Rattle.statement_reader.proofs.Parts.{give_law, recast_at}
 
 -- one p behind the other
 abbrev pub each : {A : Type 0} → Family A → Family (List A)
 each p May [] = nothing
 each p May (a ∷ as_) = p May a ▸ each p May as_
-
-module _ {A : Type 0} (b : Option Token → Bool) (item : List Token → Read A) where
-  abbrev pub repeat_by : ℕ → List Token → Read (List A)
-  repeat_by zero ts = Got [] ts
-  repeat_by (suc n) ts = elim (b (head ts)) [ true ↦ give (λ (x : A × List A). x.0 ∷ x.1) (and_then (item ts) (λ a rest. repeat_by n rest)) | false ↦ Got [] ts ]
 
 module _ (A : Type 0) (p : Family A) (X S : Extends A) (b : Option Token → Bool) (E : Option Token → Type 0)
     (first : (May : Limit) (a : A) (l : ℕ) (us : List Token) (k : ℕ) (r : List Token) → p May a l us k r → b (head us) ≡ true)
@@ -63,6 +59,7 @@ module _ (A : Type 0) (p : Family A) (X S : Extends A) (b : Option Token → Boo
     by_begins n ih ts few false ends = record {
       front = [];
       parts = refl;
+      plain = tt;
       sound = λ May allows c. (refl, refl);
       stop = tt;
       only = only_none;
@@ -75,3 +72,55 @@ module _ (A : Type 0) (p : Family A) (X S : Extends A) (b : Option Token → Boo
     pub repeat_law : (n : ℕ) (ts : List Token) → length ts < n → Law (List A) (each p) More any l ts (repeat_by b item n ts)
     repeat_law zero ts few = absurd (omega arith)
     repeat_law (suc n) ts few = by_begins n (repeat_law n) ts few (b (head ts)) refl
+
+    pub many_law : Exact (List A) (each p) More any l (repeat b item)
+    unfolding repeat
+    many_law ts = repeat_law (suc (length ts)) ts (omega arith)
+
+-- p, or nothing
+abbrev pub optional_of : {A : Type 0} → Family A → Family (Option A)
+optional_of p May None = nothing
+optional_of p May (Some a) = p May a
+
+module _ (A : Type 0) (p : Family A) (X S : Extends A) (b : Option Token → Bool)
+    (first : (May : Limit) (a : A) (l : ℕ) (us : List Token) (k : ℕ) (r : List Token) → p May a l us k r → b (head us) ≡ true)
+    (l : ℕ) where
+
+  abbrev pub May_be : Extends (Option A)
+  May_be None h = b h ≡ true
+  May_be (Some a) h = X a h
+
+  abbrev pub Rest : Extends (Option A)
+  Rest None h = b h ≡ false
+  Rest (Some a) h = S a h
+
+  pub optional_sample : Sample (Option A) (optional_of p) l
+  optional_sample = record { tokens = []; tree = None; is = λ May c frees. (refl, refl) }
+
+  module _ (item : Reader A) (exact : Exact A p X S l item) where
+    by_option : (ts : List Token) (so : Bool) → b (head ts) ≡ so → Law (Option A) (optional_of p) May_be Rest l ts (elim so [ true ↦ give Some (item ts) | false ↦ Got None ts ])
+    by_option ts true begins =
+        give_law A (Option A) p X S (optional_of p) May_be Rest Some (λ May a m us k r h. h) (λ a h x. x) (λ a h x. x) l ts (item ts) back (exact ts)
+      where
+        back : (May : Limit) (o : Option A) (us : List Token) (k : ℕ) (r : List Token) → head us ≡ head ts → optional_of p May o l us k r → ((a : A) × (o ≡ Some a) × p May a l us k r) ⊎ May_be o (head r)
+        back May None us k r same (up, is) = inr (ap b (ap head is ∙ same) ∙ begins)
+        back May (Some a) us k r same h = inl (a, refl, h)
+    by_option ts false ends = record {
+      front = [];
+      parts = refl;
+      plain = tt;
+      sound = λ May allows c. (refl, refl);
+      stop = ends;
+      only = only_none;
+    }
+      where
+        only_none : (May : Limit) (c : List Token) → head ts ≡ head c → (o : Option A) (k : ℕ) (r : List Token) → optional_of p May o l c k r → ((o ≡ None) × (k ≡ l) × (r ≡ c)) ⊎ May_be o (head r)
+        only_none May c same None k r (up, is) = inl (refl, up, is)
+        only_none May c same (Some a) k r h = let e : b (head c) ≡ true = first May a l c k r h in let e' : b (head c) ≡ false = ap b (sym same) ∙ ends in absurd (cc)
+
+    -- and what is known of the token behind it
+    pub optional_rest_law : Exact (Option A) (optional_of p) May_be Rest l (optional b item)
+    optional_rest_law ts = by_option ts (b (head ts)) refl
+
+    pub optional_law : Exact (Option A) (optional_of p) May_be any l (optional b item)
+    optional_law ts = recast_at (Option A) (optional_of p) (optional_of p) May_be May_be Rest any l (λ May o us k r h. h) (λ o h x. x) (λ o h x. tt) ts (optional b item ts) (λ May o us k r same h. inl h) (optional_rest_law ts)

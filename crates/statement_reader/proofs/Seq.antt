@@ -3,8 +3,9 @@ use Rattle.std.proofs.Common.{◌≡◌, ◌⊎◌, ℕ, ◌≤◌, ◌<◌, Lis
 use Rattle.java_lex.specs.declared.token.Token.{Token}
 use Rattle.java_tree.specs.Phrases.{Phrase, Limit, ◌▸◌, nothing, opens, closed}
 use Rattle.java_tree.specs.Reading.{within_before}
-use Rattle.statement_reader.specs.Read.{Read, Got, Bad, Deep, then}
-use Rattle.statement_reader.proofs.Law.{Family, Extends, head, Allows, Frees, Stops, Sample, IsGot, IsBad, IsDeep, Begun, Law}
+use Rattle.reading_core.specs.Read.{Read, Got, Bad, Deep, ◌>>=◌}
+use Rattle.statement_reader.specs.Readers.{Reader, head, give, with_first, and_then, taken, deeper_by, opening, repeat_by, repeat, optional}
+use Rattle.statement_reader.proofs.Law.{Family, Extends, Allows, Frees, Stops, Sample, IsGot, IsBad, IsDeep, Begun, Law, plain_append}
 
 pub head_append : (f r c : List Token) → head r ≡ head c → head (f ++ r) ≡ head (f ++ c)
 head_append [] r c h = h
@@ -13,12 +14,6 @@ head_append (t ∷ f) r c h = refl
 -- p, and then q of p's tree
 abbrev pub seq : {A B : Type 0} → Family A → (A → Family B) → Family (A × B)
 seq p q May ab = p May ab.0 ▸ q ab.0 May ab.1
-
-abbrev pub with_first : {A B : Type 0} → A → Read B → Read (A × B)
-with_first a o = then o (λ b rest. Got (a, b) rest)
-
-abbrev pub and_then : {A B : Type 0} → Read A → (A → List Token → Read B) → Read (A × B)
-and_then o f = then o (λ a rest. with_first a (f a rest))
 
 pub pair_is : {A B : Type 0} (ab : A × B) (a : A) (b : B) → ab.0 ≡ a → ab.1 ≡ b → ab ≡ (a, b)
 pair_is {A} {B} ab a b e f = pair_of ab.0 ab.1 a b e f
@@ -71,6 +66,7 @@ module _ (A B : Type 0) (p : Family A) (X S : Extends A) (q : A → Family B) (Y
   by_second ts a mid got (Got b rest) law = record {
     front = got.front ++ law.front;
     parts = both_parts got.front law.front mid ts rest got.parts law.parts;
+    plain = plain_append got.front law.front got.plain law.plain;
     sound = λ May allows c. subst (λ (v : List Token). seq p q May (a, b) l v l c) (sym (append_assoc got.front law.front c)) (l, law.front ++ c, got.sound May allows (law.front ++ c), law.sound May allows c);
     stop = law.stop;
     only = λ May c h ab k r parse. elim (only_both ts a mid got law.front rest law.parts May c h ab k r parse) [
@@ -81,6 +77,7 @@ module _ (A B : Type 0) (p : Family A) (X S : Extends A) (q : A → Family B) (Y
   by_second ts a mid got (Bad rest) law = record {
     front = got.front ++ law.front;
     parts = both_parts got.front law.front mid ts rest got.parts law.parts;
+    plain = plain_append got.front law.front got.plain law.plain;
     before = begun_both ts a mid got law.front law.before;
     only = λ May c h ab k r parse. elim (only_both ts a mid got law.front rest law.parts May c h ab k r parse) [
       inl e ↦ subst (λ (z : A). Y z ab.1 (head r)) (sym e.0) (law.only May c h ab.1 k r e.1)
@@ -93,6 +90,7 @@ module _ (A B : Type 0) (p : Family A) (X S : Extends A) (q : A → Family B) (Y
     behind = law.behind;
     here = law.here;
     parts = both_parts got.front law.front mid ts rest got.parts law.parts;
+    plain = plain_append got.front law.front got.plain law.plain;
     before = begun_both ts a mid got law.front law.before;
     only = λ May c stops ab k r parse. elim (only_both ts a mid got law.front rest law.parts May (law.at ∷ c) (ap head law.here) ab k r parse) [
       inl e ↦ subst (λ (z : A). Y z ab.1 (head r)) (sym e.0) (law.only May c stops ab.1 k r e.1)
@@ -123,6 +121,7 @@ module _ (A B : Type 0) (p : Family A) (X S : Extends A) (q : A → Family B) (Y
   seq_law ts (Bad rest) law f laws = record {
     front = law.front;
     parts = law.parts;
+    plain = law.plain;
     before = begun_first ts law.front law.before;
     only = λ May c h ab k r parse. apart ab.0 May ab.1 parse.0 parse.1 k r parse.3 (law.only May c h ab.0 parse.0 parse.1 parse.2);
   }
@@ -132,6 +131,7 @@ module _ (A B : Type 0) (p : Family A) (X S : Extends A) (q : A → Family B) (Y
     behind = law.behind;
     here = law.here;
     parts = law.parts;
+    plain = law.plain;
     before = begun_first ts law.front law.before;
     only = λ May c stops ab k r parse. apart ab.0 May ab.1 parse.0 parse.1 k r parse.3 (law.only May c stops ab.0 parse.0 parse.1 parse.2);
     more = law.more ++ (sample law.tree l).tokens;
@@ -139,3 +139,14 @@ module _ (A B : Type 0) (p : Family A) (X S : Extends A) (q : A → Family B) (Y
     deeper = λ May c all. subst (λ (v : List Token). seq p q May (law.tree, (sample law.tree l).tree) l (law.front ++ law.at ∷ v) l c) (sym (append_assoc law.more (sample law.tree l).tokens c))
         (l, (sample law.tree l).tokens ++ c, law.deeper May ((sample law.tree l).tokens ++ c) all, (sample law.tree l).is May c (λ k r _. all k r));
   }
+
+pub seq_sample : (A B : Type 0) (p : Family A) (q : A → Family B) (l : ℕ) → Sample A p l → ((a : A) → Sample B (q a) l) → Sample (A × B) (seq p q) l
+seq_sample A B p q l s t = record {
+  tokens = s.tokens ++ (t s.tree).tokens;
+  tree = (s.tree, (t s.tree).tree);
+  is = λ May c frees. subst (λ (v : List Token). seq p q May (s.tree, (t s.tree).tree) l v l c) (sym (append_assoc s.tokens (t s.tree).tokens c))
+      (l, (t s.tree).tokens ++ c, s.is May ((t s.tree).tokens ++ c) (subst (λ (v : List Token). Frees (length v) May) (append_assoc s.tokens (t s.tree).tokens c) frees), (t s.tree).is May c (λ k r lt. frees k r (longer (length r) c lt)));
+}
+  where
+    longer : (n : ℕ) (c : List Token) → n < length ((t s.tree).tokens ++ c) → n < length ((s.tokens ++ (t s.tree).tokens) ++ c)
+    longer n c lt = omega (arith, lt, length-append (t s.tree).tokens c, length-append s.tokens (t s.tree).tokens, length-append (s.tokens ++ (t s.tree).tokens) c)

@@ -1,1 +1,5 @@
-pub mod Read
+pub mod Readers
+pub mod Tokens
+pub mod Forms
+pub mod StatementReading
+pub mod Expressions

@@ -1,5 +1,8 @@
 //! The reader of statements.
 #![tactic(auto)]
 
-/// Nothing yet.
-pub fn nothing_yet() {}
+mod fixed;
+mod form;
+
+pub use fixed::{Fixed, is_it};
+pub use form::{Form, Reached, form_at};
