@@ -1,3 +1,11 @@
 pub mod ReadLaws
 pub mod Runs
 pub mod Follows
+pub mod Ends
+pub mod Faults
+pub mod Keeps
+pub mod Instance
+pub mod Told
+pub mod Inside
+pub mod Tokens
+pub mod Parts

@@ -20,6 +20,10 @@ pub when_false : {A : Type 0} (b : Bool) (x y : A) → b ≡ false → elim b as
 when_false true x y is = cc
 when_false false x y is = refl
 
+-- a test that does not look at tokens
+abbrev pub Plain : Test → Type 0
+Plain may = (k : ℕ) (us vs : List Token) → may k us ≡ may k vs
+
 module _ {W : Type 0} (react : W → Token → Act W) (ready : W → Bool) where
   -- FRONTS
 
@@ -90,10 +94,6 @@ module _ {W : Type 0} (react : W → Token → Act W) (ready : W → Bool) where
     pub parts : ts ≡ front ++ rest
     pub before : (c : Bool) × (run react ready may front ws ≡ Fine c)
     pub with_it : run react ready may (front ++ at ∷ []) ws ≡ out (at ∷ [])
-
-  -- a test that does not look at tokens
-  abbrev pub Plain : Test → Type 0
-  Plain may = (k : ℕ) (us vs : List Token) → may k us ≡ may k vs
 
   further : (may : Test) (t : Token) (ts rest : List Token) (ws more : List W) (out : List Token → Next)
       → ((us : List Token) → run react ready may (t ∷ us) ws ≡ run react ready may us more) → Stops may more out ts rest → Stops may ws out (t ∷ ts) rest

@@ -1,6 +1,9 @@
 -- How what is awaited is brought to its end: by which tokens.
 use Rattle.std.specs.Prelude.{◌≡◌, ℕ, ◌+◌, ◌<◌, Bool, true, false, ◌⊎◌, List, [], ◌∷◌}
+use Rattle.java_lex.specs.declared.spelling.Terminal.{Terminal}
+use Rattle.java_lex.specs.declared.spelling.Terminal.TheVariants as terminal
 use Rattle.java_lex.specs.declared.token.Token.{Token}
+use Rattle.java_lex.specs.Terminals.{terminal_of}
 use Rattle.reading_core.specs.Machine.{Act, Take, Open, Leave, Refuse}
 
 -- all but the first are calm
@@ -43,3 +46,26 @@ pub record Endings {W : Type 0} (react : W → Token → Act W) (ready : W → B
   pub leaves : (w : W) (t : Token) → ready w ≡ true → quiet t ≡ true → react w t ≡ Leave
   pub quiets : (w : W) → ready w ≡ false → calm w ≡ true → quiet (token w) ≡ true
   pub settles : (w : W) (t : Token) → Settled calm (react w t)
+
+-- a terminal before which what may end does so: no operator, no `.`, `(` or `else`
+abbrev pub is_quiet : Terminal → Bool
+is_quiet terminal.Else = false
+is_quiet terminal.OpenParen = false
+is_quiet terminal.Dot = false
+is_quiet terminal.Equal = false
+is_quiet terminal.NotEqual = false
+is_quiet terminal.Less = false
+is_quiet terminal.AtMost = false
+is_quiet terminal.Greater = false
+is_quiet terminal.AtLeast = false
+is_quiet terminal.Plus = false
+is_quiet terminal.Minus = false
+is_quiet terminal.Times = false
+is_quiet terminal.And = false
+is_quiet terminal.Or = false
+is_quiet terminal.Implies = false
+is_quiet terminal.Iff = false
+is_quiet x = true
+
+abbrev pub quiet_token : Token → Bool
+quiet_token t = is_quiet (terminal_of t)

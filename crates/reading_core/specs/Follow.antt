@@ -21,14 +21,3 @@ behind react ready may t ts s =
 abbrev pub Allows : {R : Type 0} → (R → Type 0) → Test → ℕ → Option (Level R) → Type 0
 Allows P may k None = (ts : List Token) → may k ts ≡ false
 Allows P may k (Some level) = ((ts : List Token) → level.may ts ≡ may k ts) × P level.readers
-
--- What is awaited lies in a larger machine.
-abbrev pub inside : {V W : Type 0} → (V → W) → List V → List W
-inside inn [] = []
-inside inn (v ∷ vs) = inn v ∷ inside inn vs
-
-abbrev pub act_inside : {V W : Type 0} → (V → W) → Act V → Act W
-act_inside inn (Take vs) = Take (inside inn vs)
-act_inside inn (Open k vs) = Open k (inside inn vs)
-act_inside inn Leave = Leave
-act_inside inn Refuse = Refuse

@@ -4,3 +4,4 @@ pub mod Loops
 pub mod Machine
 pub mod Endings
 pub mod Follow
+pub mod Exact

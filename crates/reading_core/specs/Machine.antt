@@ -45,6 +45,23 @@ then_ (Open k more) ws = Open k (more ++ ws)
 then_ Leave ws = Leave
 then_ Refuse ws = Refuse
 
+-- a token of a kind, and what is awaited behind it
+abbrev pub takes_if : {W : Type 0} → Bool → List W → Act W
+takes_if true ws = Take ws
+takes_if false ws = Refuse
+
+-- and it opens this level
+abbrev pub opens_if : {W : Type 0} → Bool → ℕ → List W → Act W
+opens_if true k ws = Open k ws
+opens_if false k ws = Refuse
+
+-- it takes a token or refuses it
+abbrev pub IsStart : {W : Type 0} → Act W → Type 0
+IsStart (Take more) = Unit {0}
+IsStart (Open k more) = Unit {0}
+IsStart Leave = ⊥
+IsStart Refuse = Unit {0}
+
 -- react: what something awaited does at a token; ready: whether it may be at its end where the tokens are
 module _ {W : Type 0} (react : W → Token → Act W) (ready : W → Bool) where
   abbrev pub step : Token → List W → Step W

@@ -22,6 +22,12 @@ abbrev pub ◌>>=◌ : {A B : Type 0} → Read A → (A → List Token → Read 
 ◌>>=◌ (Bad rest) next = Bad rest
 ◌>>=◌ (Deep rest) next = Deep rest
 
+-- a fact of what was read
+abbrev pub OnGot : {A : Type 0} → (A → List Token → Type 0) → Read A → Type 0
+OnGot P (Got a rest) = P a rest
+OnGot P (Bad rest) = Unit {0}
+OnGot P (Deep rest) = Unit {0}
+
 -- what a token is to a part whose tokens stand in annotations (true) or outside; the others stand in none
 abbrev pub on : Bool → Letter → Terminal
 on false (false, x) = x
@@ -45,3 +51,40 @@ number_of Quoted = 0
 number_of (Slashed bytes) = 0
 number_of (Symbol bytes) = 0
 number_of End = 0
+
+-- TOKENS OF ONE KIND
+
+abbrev pub is_name_terminal : Terminal → Bool
+is_name_terminal terminal.Name = true
+is_name_terminal x = false
+
+abbrev pub is_open_terminal : Terminal → Bool
+is_open_terminal terminal.OpenParen = true
+is_open_terminal x = false
+
+abbrev pub is_close_terminal : Terminal → Bool
+is_close_terminal terminal.CloseParen = true
+is_close_terminal x = false
+
+abbrev pub is_comma_terminal : Terminal → Bool
+is_comma_terminal terminal.Comma = true
+is_comma_terminal x = false
+
+abbrev pub is_semicolon_terminal : Terminal → Bool
+is_semicolon_terminal terminal.Semicolon = true
+is_semicolon_terminal x = false
+
+abbrev pub is_name : Bool → Token → Bool
+is_name side t = is_name_terminal (at_side side t)
+
+abbrev pub is_open : Bool → Token → Bool
+is_open side t = is_open_terminal (at_side side t)
+
+abbrev pub is_close : Bool → Token → Bool
+is_close side t = is_close_terminal (at_side side t)
+
+abbrev pub is_comma : Bool → Token → Bool
+is_comma side t = is_comma_terminal (at_side side t)
+
+abbrev pub is_semicolon : Bool → Token → Bool
+is_semicolon side t = is_semicolon_terminal (at_side side t)

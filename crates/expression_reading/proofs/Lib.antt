@@ -1,0 +1,6 @@
+pub mod Sim
+pub mod Endings
+pub mod Links
+pub mod Sound
+pub mod Below
+pub mod Complete

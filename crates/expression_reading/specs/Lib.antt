@@ -1,0 +1,4 @@
+pub mod Operators
+pub mod Reading
+pub mod Wants
+pub mod Ends
