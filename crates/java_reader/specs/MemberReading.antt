@@ -14,8 +14,8 @@ use Rattle.java_tree.specs.Phrases.{Letter, letter, ident_of}
 use Rattle.java_tree.specs.Statements.{is_local_modifier}
 use Rattle.java_tree.specs.Members.{is_class_modifier, is_method_modifier, Written, empty, one_part, fields, parts_of}
 use Rattle.reading_core.specs.Read.{Read, Got, Bad, Deep, ◌>>=◌, at_side}
-use Rattle.statement_reader.specs.declared.fixed.Fixed.{Fixed}
-use Rattle.statement_reader.specs.declared.fixed.Fixed.TheVariants.{OpenBrace, CloseBrace, OpenParen, CloseParen, Semicolon, Comma, Dot, Class as ClassWord, Package, Import, Static, Times, Requires, Ensures, Invariant, NormalBehavior, End}
+use Rattle.statement_reader.specs.declared.marks.Fixed.{Fixed}
+use Rattle.statement_reader.specs.declared.marks.Fixed.TheVariants.{OpenBrace, CloseBrace, OpenParen, CloseParen, Semicolon, Comma, Dot, Class as ClassWord, Package, Import, Static, Times, Requires, Ensures, Invariant, NormalBehavior, End}
 use Rattle.statement_reader.specs.Readers.{Reader, head, give, first, second, and_then, taken, repeat, optional}
 use Rattle.statement_reader.specs.Tokens.{is_name, stands, fixed, fixed_at, name_in, next_is, next_is_name, at_head}
 use Rattle.statement_reader.specs.StatementReading.{modifiers_in, is_type, type_by, type_in, statements_in, stmts_of}

@@ -12,8 +12,8 @@ use Rattle.java_tree.specs.Phrases.{Limit, Letter, ◌▸◌, letter, ident_of, 
 use Rattle.java_tree.specs.Expressions.{expression, arguments}
 use Rattle.java_tree.specs.Statements.{value_of, declaration, more_declarations, declarations, is_local_modifier, type_of}
 use Rattle.reading_core.specs.Read.{Read}
-use Rattle.statement_reader.specs.declared.fixed.Fixed.{Fixed}
-use Rattle.statement_reader.specs.declared.fixed.Fixed.TheVariants.{OpenParen, CloseParen, Semicolon, Comma, Assign}
+use Rattle.statement_reader.specs.declared.marks.Fixed.{Fixed}
+use Rattle.statement_reader.specs.declared.marks.Fixed.TheVariants.{OpenParen, CloseParen, Semicolon, Comma, Assign}
 use Rattle.statement_reader.specs.Readers.{Reader, head, give, first, second, and_then, optional, repeat}
 use Rattle.statement_reader.specs.Tokens.{is_fixed, terminal_of_fixed, fixed, name_in, at_head, next_is}
 use Rattle.statement_reader.specs.Expressions.{goes_on, extends}

@@ -119,7 +119,7 @@ module _ (A B : Type 0) (P : A → Token → Type 0) (test : Token → Bool) (va
     deeper = λ May c all. opens_body May t (value t) law.tree (law.front ++ law.at ∷ (law.more ++ c)) (suc l) c (decided.is t passes) (all (suc l) (law.front ++ law.at ∷ (law.more ++ c))) (law.deeper May c all);
   }
 
-  pub by_level : (t : Token) (ts : List Token) → test t ≡ true → (below : Option (List Token → Read B)) → Below B body X S l below → Law (A × B) O OX OS l (t ∷ ts) (deeper_by below (value t) t ts)
+  pub by_level : (t : Token) (ts : List Token) → test t ≡ true → (below : Option (List Token → Read B)) → Below B body X S l below → Law (A × B) O OX OS l (t ∷ ts) (deeper_by below (t ∷ ts) (value t) ts)
   by_level t ts passes None (full many) = record {
     front = [];
     at = t;
@@ -142,7 +142,7 @@ module _ (A B : Type 0) (P : A → Token → Type 0) (test : Token → Bool) (va
   by_level t ts passes (Some read) (room _ may exact) = by_body t ts passes (read ts) may (exact ts)
 
   by_test : (below : Option (List Token → Read B)) → Below B body X S l below → (t : Token) (ts : List Token) (b : Bool) → test t ≡ b
-      → Law (A × B) O OX OS l (t ∷ ts) (elim b [ true ↦ deeper_by below (value t) t ts | false ↦ Bad (t ∷ ts) ])
+      → Law (A × B) O OX OS l (t ∷ ts) (elim b as (λ _. Read A) [ true ↦ Got (value t) ts | false ↦ Bad (t ∷ ts) ] >>= deeper_by below (t ∷ ts))
   by_test below exact t ts true passes = by_level t ts passes below exact
   by_test below exact t ts false fails = record {
     front = [];

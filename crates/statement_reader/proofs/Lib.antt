@@ -14,3 +14,4 @@ pub mod StatementLaws
 pub mod Beginnings
 pub mod StatementExact
 pub mod StatementLaw
+pub mod CodeLemmas

@@ -13,12 +13,14 @@ use Rattle.java_tree.specs.Statements.{is_target, is_place, is_run, stepped, sta
 use Rattle.reading_core.specs.Read.{Read, Got, Bad, Deep, at_side, ◌>>=◌}
 use Rattle.statement_reader.specs.declared.form.Reached.{Reached}
 use Rattle.statement_reader.specs.declared.form.Reached.TheVariants.{Bare, Place, Call}
-use Rattle.statement_reader.specs.declared.fixed.Fixed.{Fixed}
-use Rattle.statement_reader.specs.declared.fixed.Fixed.TheVariants.{OpenParen, CloseParen, Semicolon, Comma, Assign, Dot}
+use Rattle.statement_reader.specs.declared.form.Turn.{Turn}
+use Rattle.statement_reader.specs.declared.form.Turn.TheVariants.{Assigns, Up, Down, Ends, Goes, Fails}
+use Rattle.statement_reader.specs.declared.marks.Fixed.{Fixed}
+use Rattle.statement_reader.specs.declared.marks.Fixed.TheVariants.{OpenParen, CloseParen, Semicolon, Comma, Assign, Dot}
 use Rattle.statement_reader.specs.Readers.{Reader, head, give, first, second, and_then, opening, deeper_by, optional, repeat}
 use Rattle.statement_reader.specs.Tokens.{is_fixed, terminal_of_fixed, stands, fixed, name_in, at_head, next_is}
 use Rattle.statement_reader.specs.Expressions.{goes_on, extends}
-use Rattle.statement_reader.specs.StatementReading.{Turn, Assigns, Up, Down, Ends, Goes, Fails, turn_of, assigned_in, turn_in, reached_in, named_in, further_in}
+use Rattle.statement_reader.specs.StatementReading.{turn_of, assigned_in, turn_in, reached_in, named_in, further_in}
 use Rattle.statement_reader.proofs.Law.{Family, Extends, never, any, Sample, Exact, Law, IsGot, Begun, Allows, Frees, Stops}
 use Rattle.statement_reader.proofs.Seq.{seq, seq_law, seq_sample}
 use Rattle.statement_reader.proofs.Parts.{give_law, give_sample, same_law, same_sample, behind, behind_law, bind_law, recast_law, second_with, tails}
@@ -150,10 +152,10 @@ module _ (expression : ℕ → Reader Expr) (arguments : ℕ → Reader Exprs)
         → Law Stmt (TailF l0 e) never any l (t ∷ ts) (turn_in expression arguments base further e t ts Goes)
     goes_law t ts below is =
         subst (λ (o : Read Stmt). Law Stmt (TailF l0 e) never any l (t ∷ ts) o) (same further)
-        (give_law (Unit {0} × Stmt) Stmt (opened (λ u v. letter v ≡ (false, terminal.Dot)) (NextF e)) never any (TailF l0 e) never any (λ x. x.1) to (λ x h none. none) (λ x h s. tt) l (t ∷ ts) (deeper_by (further_of further e) tt t ts) back
+        (give_law (Unit {0} × Stmt) Stmt (opened (λ u v. letter v ≡ (false, terminal.Dot)) (NextF e)) never any (TailF l0 e) never any (λ x. x.1) to (λ x h none. none) (λ x h s. tt) l (t ∷ ts) (deeper_by (further_of further e) (t ∷ ts) tt ts) back
         (by_level (Unit {0}) Stmt (λ u v. letter v ≡ (false, terminal.Dot)) (stands false Dot) (λ v. tt) (fixed_decided false Dot refl (λ e. cc)) (NextF e) never any (next_sample e (matches_target r e matches)) l t ts (ap (is_fixed Dot) is) (further_of further e) below))
       where
-        same : (f : Option (Expr → Reader Stmt)) → give (λ (x : Unit {0} × Stmt). x.1) (deeper_by (further_of f e) tt t ts) ≡ turn_in expression arguments base f e t ts Goes
+        same : (f : Option (Expr → Reader Stmt)) → give (λ (x : Unit {0} × Stmt). x.1) (deeper_by (further_of f e) (t ∷ ts) tt ts) ≡ turn_in expression arguments base f e t ts Goes
         same None = refl
         same (Some go) = second_with tt (go e ts)
 

@@ -5,7 +5,7 @@ use Rattle.java_lex.specs.declared.spelling.Terminal.TheVariants as terminal
 use Rattle.java_lex.specs.declared.token.Token.{Token}
 use Rattle.java_tree.specs.Phrases.{Limit, one, one_at}
 use Rattle.reading_core.specs.Read.{Read}
-use Rattle.statement_reader.specs.declared.fixed.Fixed.{Fixed}
+use Rattle.statement_reader.specs.declared.marks.Fixed.{Fixed}
 use Rattle.statement_reader.specs.Readers.{Reader, head, give, first, second, and_then}
 use Rattle.statement_reader.specs.Tokens.{terminal_of_fixed, fixed, fixed_at, at_head}
 use Rattle.statement_reader.proofs.Law.{Family, Extends, never, any, Sample, Exact, Law, IsGot}

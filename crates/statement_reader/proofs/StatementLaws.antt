@@ -18,8 +18,8 @@ use Rattle.statement_reader.specs.declared.form.Reached.{Reached}
 use Rattle.statement_reader.specs.declared.form.Reached.TheVariants.{Bare, Place, Call}
 use Rattle.statement_reader.specs.declared.form.Form.{Form}
 use Rattle.statement_reader.specs.declared.form.Form.TheVariants as form
-use Rattle.statement_reader.specs.declared.fixed.Fixed.{Fixed}
-use Rattle.statement_reader.specs.declared.fixed.Fixed.TheVariants.{OpenBrace, CloseBrace, OpenParen, CloseParen, Semicolon, Comma, Assign, Dot, If, Else, While, Return}
+use Rattle.statement_reader.specs.declared.marks.Fixed.{Fixed}
+use Rattle.statement_reader.specs.declared.marks.Fixed.TheVariants.{OpenBrace, CloseBrace, OpenParen, CloseParen, Semicolon, Comma, Assign, Dot, If, Else, While, Return}
 use Rattle.statement_reader.specs.Readers.{Reader, head, give, first, second, and_then, opening, deeper_by, optional, repeat, lower}
 use Rattle.statement_reader.specs.Tokens.{is_fixed, terminal_of_fixed, stands, fixed, fixed_at, name_in, at_head, next_is, next_is_name, is_name}
 use Rattle.statement_reader.specs.Forms.{form_of, is_some_form, begins_statement}

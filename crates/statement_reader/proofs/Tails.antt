@@ -13,12 +13,14 @@ use Rattle.java_tree.specs.Statements.{is_target, is_place, is_run, stepped, sta
 use Rattle.reading_core.specs.Read.{Read, Got, Bad, Deep, at_side, ◌>>=◌}
 use Rattle.statement_reader.specs.declared.form.Reached.{Reached}
 use Rattle.statement_reader.specs.declared.form.Reached.TheVariants.{Bare, Place, Call}
-use Rattle.statement_reader.specs.declared.fixed.Fixed.{Fixed}
-use Rattle.statement_reader.specs.declared.fixed.Fixed.TheVariants.{OpenParen, CloseParen, Semicolon, Comma, Assign, Dot}
+use Rattle.statement_reader.specs.declared.form.Turn.{Turn}
+use Rattle.statement_reader.specs.declared.form.Turn.TheVariants.{Assigns, Up, Down, Ends, Goes, Fails}
+use Rattle.statement_reader.specs.declared.marks.Fixed.{Fixed}
+use Rattle.statement_reader.specs.declared.marks.Fixed.TheVariants.{OpenParen, CloseParen, Semicolon, Comma, Assign, Dot}
 use Rattle.statement_reader.specs.Readers.{Reader, head, give, first, second, and_then, opening, deeper_by, optional, repeat}
 use Rattle.statement_reader.specs.Tokens.{is_fixed, terminal_of_fixed, fixed, name_in, at_head, next_is}
 use Rattle.statement_reader.specs.Expressions.{goes_on, extends}
-use Rattle.statement_reader.specs.StatementReading.{Turn, Assigns, Up, Down, Ends, Goes, Fails, turn_of, assigned_in, turn_in, reached_in, named_in, further_in}
+use Rattle.statement_reader.specs.StatementReading.{turn_of, assigned_in, turn_in, reached_in, named_in, further_in}
 use Rattle.statement_reader.proofs.Law.{Family, Extends, never, any, Sample, Exact, Law, IsGot, Begun, Allows, Frees, Stops}
 use Rattle.statement_reader.proofs.Seq.{seq, seq_law, seq_sample}
 use Rattle.statement_reader.proofs.Parts.{give_law, give_sample, same_law, same_sample, behind, behind_law}

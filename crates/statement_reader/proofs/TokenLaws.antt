@@ -9,8 +9,8 @@ use Rattle.java_lex.specs.Terminals.{terminal_of}
 use Rattle.java_tree.specs.declared.names.Ident.{Ident}
 use Rattle.java_tree.specs.Phrases.{Letter, letter, ident_of, Limit, one, one_at, name}
 use Rattle.reading_core.specs.Read.{on, at_side}
-use Rattle.statement_reader.specs.declared.fixed.Fixed.{Fixed}
-use Rattle.statement_reader.specs.declared.fixed.Fixed.TheVariants.{OpenBrace, CloseBrace, OpenParen, CloseParen, Semicolon, Comma, Dot, Assign, If, Else, While, Return, Class, Package, Import, Static, Times, Requires, Ensures, Invariant, NormalBehavior, End}
+use Rattle.statement_reader.specs.declared.marks.Fixed.{Fixed}
+use Rattle.statement_reader.specs.declared.marks.Fixed.TheVariants.{OpenBrace, CloseBrace, OpenParen, CloseParen, Semicolon, Comma, Dot, Assign, If, Else, While, Return, Class, Package, Import, Static, Times, Requires, Ensures, Invariant, NormalBehavior, End}
 use Rattle.statement_reader.specs.Readers.{head}
 use Rattle.statement_reader.specs.Tokens.{is_fixed, terminal_of_fixed, stands, is_name, fixed, fixed_at, name_in, at_head, next_is, next_is_name}
 use Rattle.statement_reader.proofs.Law.{Family, never, any, Sample, Exact}

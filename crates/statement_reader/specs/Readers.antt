@@ -29,15 +29,14 @@ abbrev pub taken : {A : Type 0} → (Token → Bool) → (Token → A) → Reade
 taken test value [] = Bad []
 taken test value (t ∷ ts) = elim (test t) [ true ↦ Got (value t) ts | false ↦ Bad (t ∷ ts) ]
 
--- below: the reader one level deeper, if a level is left
-abbrev pub deeper_by : {A B : Type 0} → Option (Reader B) → A → Token → List Token → Read (A × B)
-deeper_by None a t ts = Deep (t ∷ ts)
-deeper_by (Some read) a t ts = with_first a (read ts)
+-- Behind a token that opens a level, with which ts begin; below: the reader one level deeper, if a level is left.
+abbrev pub deeper_by : {A B : Type 0} → Option (Reader B) → List Token → A → Reader (A × B)
+deeper_by None ts a rest = Deep ts
+deeper_by (Some read) ts a rest = with_first a (read rest)
 
 -- one token that passes the test and opens a level, and then what stands one level deeper
 abbrev pub opening : {A B : Type 0} → (Token → Bool) → (Token → A) → Option (Reader B) → Reader (A × B)
-opening test value below [] = Bad []
-opening test value below (t ∷ ts) = elim (test t) [ true ↦ deeper_by below (value t) t ts | false ↦ Bad (t ∷ ts) ]
+opening test value below ts = taken test value ts >>= deeper_by below ts
 
 module _ {A : Type 0} (begins : Option Token → Bool) (item : Reader A) where
   -- at most so many of the part, as long as one begins
@@ -53,10 +52,14 @@ module _ {A : Type 0} (begins : Option Token → Bool) (item : Reader A) where
   abbrev pub optional : Reader (Option A)
   optional ts = elim (begins (head ts)) [ true ↦ give Some (item ts) | false ↦ Got None ts ]
 
+-- the levels that are left one level deeper, where so many are left
+abbrev pub left_below : ℕ → Option ℕ
+left_below zero = None
+left_below (suc n) = Some n
+
 -- one level deeper, where so many levels are left
 abbrev pub lower : {B : Type 0} → ℕ → (ℕ → Reader B) → Option (Reader B)
-lower zero read = None
-lower (suc n) read = Some (read n)
+lower left read = elim (left_below left) [ None ↦ None | Some n ↦ Some (read n) ]
 
 -- what is read is another value with it
 abbrev pub second : {A B : Type 0} → Read (A × B) → Read B

@@ -13,12 +13,14 @@ use Rattle.java_tree.specs.Phrases.{Letter, letter, ident_of}
 use Rattle.java_tree.specs.Expressions.{place}
 use Rattle.java_tree.specs.Statements.{is_local_modifier, in_order, kept}
 use Rattle.reading_core.specs.Read.{Read, Got, Bad, Deep, ◌>>=◌, at_side}
-use Rattle.statement_reader.specs.declared.fixed.Fixed.TheVariants.{OpenBrace, CloseBrace, OpenParen, CloseParen, Semicolon, Comma, Dot, Assign, If, Else, While, Return}
+use Rattle.statement_reader.specs.declared.marks.Fixed.TheVariants.{OpenBrace, CloseBrace, OpenParen, CloseParen, Semicolon, Comma, Dot, Assign, If, Else, While, Return}
 use Rattle.statement_reader.specs.declared.form.Reached.{Reached}
 use Rattle.statement_reader.specs.declared.form.Reached.TheVariants.{Bare, Place, Call}
+use Rattle.statement_reader.specs.declared.form.Turn.{Turn}
+use Rattle.statement_reader.specs.declared.form.Turn.TheVariants.{Assigns, Up, Down, Ends, Goes, Fails}
 use Rattle.statement_reader.specs.declared.form.Form.{Form}
 use Rattle.statement_reader.specs.declared.form.Form.TheVariants as form
-use Rattle.statement_reader.specs.Readers.{Reader, head, give, first, second, with_first, and_then, taken, opening, repeat, optional, lower}
+use Rattle.statement_reader.specs.Readers.{Reader, head, give, first, second, with_first, and_then, taken, opening, repeat, optional, lower, left_below}
 use Rattle.statement_reader.specs.Tokens.{is_name, stands, fixed, fixed_at, name_in, next_is, next_is_name}
 use Rattle.statement_reader.specs.Forms.{form_of, begins_statement}
 
@@ -47,15 +49,6 @@ abbrev pub type_in : Reader TypeTree
 type_in = taken (λ t. is_type (at_side false t)) (λ t. type_by (at_side false t) t)
 
 -- PLACES AND RUNS
-
--- what the tokens behind the expression make of it
-pub data Turn : Type 0 where
-  Assigns : Turn
-  Up : Turn
-  Down : Turn
-  Ends : Turn
-  Goes : Turn
-  Fails : Turn
 
 abbrev pub turn_of : Reached → Terminal → Turn
 turn_of r terminal.Dot = Goes
@@ -98,6 +91,9 @@ module _ (expression : ℕ → Reader Expr) (arguments : ℕ → Reader Exprs) w
   abbrev pub further_in : ℕ → ℕ → Option (Expr → Reader Stmt)
   further_in base zero = None
   further_in base (suc left) = Some (λ e ts. name_in false ts >>= (λ i rest. named_in base (further_in base left) left (read (place e) e i) (call_on (place e) e i) rest))
+
+  abbrev pub step_in : ℕ → ℕ → Expr → Reader Stmt
+  step_in base left e ts = name_in false ts >>= (λ i rest. named_in base (further_in base left) left (read (place e) e i) (call_on (place e) e i) rest)
 
   -- DECLARATIONS
 
@@ -183,6 +179,10 @@ module _ (expression : ℕ → Reader Expr) (arguments : ℕ → Reader Exprs) w
   unfoldable pub statement_at : ℕ → Reader Stmt
   statement_at zero = statement_in zero None
   statement_at (suc left) = statement_in (suc left) (Some (statement_at left))
+
+  -- the reader of statements one level deeper
+  abbrev pub under_at : ℕ → Option (Reader Stmt)
+  under_at left = elim (left_below left) [ None ↦ None | Some n ↦ Some (statement_at n) ]
 
   -- { Stmt }
   abbrev pub statements_in : ℕ → Reader (List Stmt)

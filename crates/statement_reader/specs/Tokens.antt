@@ -7,8 +7,8 @@ use Rattle.java_tree.specs.declared.names.Ident.{Ident}
 use Rattle.java_tree.specs.Phrases.{ident_of}
 use Rattle.reading_core.specs.Read.{Read, at_side}
 use Rattle.statement_reader.specs.Readers.{Reader, taken}
-use Rattle.statement_reader.specs.declared.fixed.Fixed.{Fixed}
-use Rattle.statement_reader.specs.declared.fixed.Fixed.TheVariants.{OpenBrace, CloseBrace, OpenParen, CloseParen, Semicolon, Comma, Dot, Assign, If, Else, While, Return, Class, Package, Import, Static, Times, Requires, Ensures, Invariant, NormalBehavior, End}
+use Rattle.statement_reader.specs.declared.marks.Fixed.{Fixed}
+use Rattle.statement_reader.specs.declared.marks.Fixed.TheVariants.{OpenBrace, CloseBrace, OpenParen, CloseParen, Semicolon, Comma, Dot, Assign, If, Else, While, Return, Class, Package, Import, Static, Times, Requires, Ensures, Invariant, NormalBehavior, End}
 
 abbrev pub is_fixed : Fixed → Terminal → Bool
 is_fixed OpenBrace terminal.OpenBrace = true

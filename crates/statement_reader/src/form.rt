@@ -1,6 +1,7 @@
 ghost use Rattle.std.specs.Prelude.{◌≡◌};
 ghost use Rattle.java_tree.specs.Phrases.{letter};
 ghost use Rattle.statement_reader.specs.Forms.{form_of};
+ghost use Rattle.statement_reader.specs.StatementReading.{turn_of};
 
 use java_lex::{Terminal, Token};
 
@@ -28,6 +29,37 @@ pub enum Reached {
     Bare,
     Place,
     Call,
+}
+
+/// What a token makes of what was read of an assignment or a call.
+#[derive(Clone, Copy, Debug, PartialEq, Eq)]
+pub enum Turn {
+    /// `=`, and a value behind it.
+    Assigns,
+    /// `++`.
+    Up,
+    /// `--`.
+    Down,
+    /// The `;` behind a call.
+    Ends,
+    /// A `.`.
+    Goes,
+    /// None of these.
+    Fails,
+}
+
+/// What the token makes of what was read. Takes no memory.
+pub(crate) fn turn_at(reached: Reached, terminal: Terminal) -> Turn
+    ensures { result ≡ turn_of reached terminal }
+{
+    match (reached, terminal) {
+        (_, Terminal::Dot) => Turn::Goes,
+        (Reached::Place, Terminal::Assign) => Turn::Assigns,
+        (Reached::Place, Terminal::Increment) => Turn::Up,
+        (Reached::Place, Terminal::Decrement) => Turn::Down,
+        (Reached::Call, Terminal::Semicolon) => Turn::Ends,
+        _ => Turn::Fails,
+    }
 }
 
 /// What a statement is that begins with the token. Takes no memory.

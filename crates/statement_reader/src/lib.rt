@@ -1,8 +1,12 @@
 //! The reader of statements.
 #![tactic(auto)]
 
-mod fixed;
+mod marks;
 mod form;
+mod places;
+mod stub;
+mod tokens;
 
-pub use fixed::{Fixed, is_it};
-pub use form::{Form, Reached, form_at};
+pub use marks::{Fixed, is_it};
+pub use form::{Form, Reached, Turn, form_at};
+pub use tokens::{fixed, fixed_at, lower, name, next_is, next_is_name};

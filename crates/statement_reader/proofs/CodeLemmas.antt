@@ -1,0 +1,94 @@
+-- What the code's proofs cite.
+use Rattle.std.proofs.Common.{◌≡◌, ℕ, zero, suc, ◌+◌, ◌<◌, ◌≤◌, Bool, true, false, List, [], ◌∷◌, ◌++◌, length, map, Option, Some, None, refl, sym, ap, ◌∙◌, subst, arith, append_assoc, append-nil, length-append}
+use Rattle.java_lex.specs.declared.token.Token.{Token}
+use Rattle.java_tree.specs.declared.expressions.JavaNode.{JavaNode}
+use Rattle.java_tree.specs.declared.expressions.JavaNode.TheBlock as block
+use Rattle.java_tree.specs.declared.statements.StmtTree.{StmtTree}
+use Rattle.java_tree.specs.Trees.{Expr, Exprs, Stmt, Stmts, done, next}
+use Rattle.java_tree.specs.Expressions.{place}
+use Rattle.java_tree.specs.Seen.{java_node, stmt_tree, stmt_trees}
+use Rattle.reading_core.specs.declared.stop.Stop.{Stop}
+use Rattle.reading_core.specs.declared.stop.Stop.TheVariants.{Memory, Wrong, Deep as DeepStop}
+use Rattle.reading_core.specs.Read.{Read, Got, Bad, Deep, ◌>>=◌, at_side}
+use Rattle.statement_reader.specs.declared.form.Reached.{Reached}
+use Rattle.statement_reader.specs.declared.form.Turn.TheVariants.{Goes}
+use Rattle.statement_reader.specs.Readers.{Reader, head, give, and_then, repeat_by, repeat, left_below}
+use Rattle.statement_reader.specs.StatementReading.{turn_of, reached_in, further_in, step_in, statement_at, statement_in, under_at, stmts_of}
+use Rattle.statement_reader.specs.Gives.{Blames}
+
+-- the place of a tree is its first token's
+pub place_node : (at : ℕ) (node : JavaNode) → place (java_node at node) ≡ at
+place_node at (block.Num n) = refl
+place_node at (block.Flag b) = refl
+place_node at block.Null = refl
+place_node at block.This = refl
+place_node at (block.New name) = refl
+place_node at (block.Named name) = refl
+place_node at (block.Call' name vec row) = refl
+place_node at (block.Read' p at_a a name) = refl
+place_node at (block.CallOn' p at_a a name vec row) = refl
+place_node at (block.Paren' p at_a a) = refl
+place_node at (block.Not' p at_a a) = refl
+place_node at (block.Neg' p at_a a) = refl
+place_node at (block.Bin' sign p at_a a q at_b b) = refl
+
+pub list_stmts : (ss : List StmtTree) → stmts_of (map stmt_tree ss) ≡ stmt_trees ss
+list_stmts [] = refl
+list_stmts (s ∷ ss) = ap (next (stmt_tree s)) (list_stmts ss)
+
+module _ (expression : ℕ → Reader Expr) (arguments : ℕ → Reader Exprs) where
+  pub further_some : (base left less : ℕ) → left_below left ≡ Some less → further_in expression arguments base left ≡ Some (step_in expression arguments base less)
+  further_some base zero less is = cc
+  further_some base (suc left) less is = let e : left ≡ less = cc in ap (λ n. Some (step_in expression arguments base n)) e
+
+  pub further_none : (base left : ℕ) → left_below left ≡ None → further_in expression arguments base left ≡ None
+  further_none base zero is = refl
+  further_none base (suc left) is = cc
+
+  -- a `.` and what stands behind it
+  pub goes_is : (base left less : ℕ) (r : Reached) (e : Expr) (t : Token) (ts : List Token) → turn_of r (at_side false t) ≡ Goes → left_below left ≡ Some less
+      → reached_in expression arguments base (further_in expression arguments base left) r e (t ∷ ts) ≡ step_in expression arguments base less e ts
+  goes_is base left less r e t ts turn is = rw (turn, further_some base left less is) refl
+
+  pub statement_is : (left : ℕ) (ts : List Token) → statement_at expression arguments left ts ≡ statement_in expression arguments left (under_at expression arguments left) ts
+  unfolding statement_at
+  statement_is zero ts = refl
+  statement_is (suc left) ts = refl
+
+-- LOOPS
+
+module _ {A : Type 0} (b : Option Token → Bool) (item : Reader A) where
+  -- the parts so far, and the tokens that are left, lead to the same as the whole list
+  abbrev pub SoFar : Read (List A) → List A → List Token → Type 0
+  SoFar whole acc rest = (n : ℕ) × (length rest < n) × (whole ≡ give (λ more. acc ++ more) (repeat_by b item n rest))
+
+  pub so_far_start : (whole : Read (List A)) (acc : List A) (ts : List Token) → whole ≡ give (λ more. acc ++ more) (repeat b item ts) → SoFar whole acc ts
+  unfolding repeat
+  so_far_start whole acc ts is = (suc (length ts), omega arith, is)
+
+  give_both : (acc : List A) (a : A) (o : Read (List A)) → give (λ more. acc ++ more) (give (λ (x : A × List A). x.0 ∷ x.1) (give (λ (more : List A). (a, more)) o)) ≡ give (λ more. (acc ++ a ∷ []) ++ more) o
+  give_both acc a (Got more rest) = ap (λ v. Got v rest) (sym (append_assoc acc (a ∷ []) more))
+  give_both acc a (Bad rest) = refl
+  give_both acc a (Deep rest) = refl
+
+  turned : (n : ℕ) (rest : List Token) → b (head rest) ≡ true → repeat_by b item (suc n) rest ≡ give (λ (x : A × List A). x.0 ∷ x.1) (and_then (item rest) (λ a more. repeat_by b item n more))
+  turned n rest is = rw is refl
+
+  ended : (n : ℕ) (rest : List Token) → b (head rest) ≡ false → repeat_by b item (suc n) rest ≡ Got [] rest
+  ended n rest is = rw is refl
+
+  pub so_far_more : (whole : Read (List A)) (acc : List A) (rest behind : List Token) (a : A) → SoFar whole acc rest → b (head rest) ≡ true → item rest ≡ Got a behind → length behind < length rest → SoFar whole (acc ++ a ∷ []) behind
+  so_far_more whole acc rest behind a (zero, few, is) begins got less = absurd (omega arith)
+  so_far_more whole acc rest behind a (suc n, few, is) begins got less =
+      (n, omega arith, is ∙ ap (give (λ more. acc ++ more)) (turned n rest begins ∙ ap (λ o. give (λ (x : A × List A). x.0 ∷ x.1) (and_then o (λ a more. repeat_by b item n more))) got) ∙ give_both acc a (repeat_by b item n behind))
+
+  pub so_far_end : (whole : Read (List A)) (acc : List A) (rest : List Token) → SoFar whole acc rest → b (head rest) ≡ false → whole ≡ Got acc rest
+  so_far_end whole acc rest (zero, few, is) ends = absurd (omega arith)
+  so_far_end whole acc rest (suc n, few, is) ends = is ∙ ap (give (λ more. acc ++ more)) (ended n rest ends) ∙ ap (λ v. Got v rest) (append-nil acc)
+
+  pub so_far_blames : (whole : Read (List A)) (acc : List A) (rest : List Token) (stop : Stop) → SoFar whole acc rest → b (head rest) ≡ true → Blames stop (item rest) → Blames stop whole
+  so_far_blames whole acc rest Memory so_far begins blames = tt
+  so_far_blames whole acc rest (Wrong at) (zero, few, is) begins blames = absurd (omega arith)
+  so_far_blames whole acc rest (Wrong at) (suc n, few, is) begins blames = is ∙ ap (give (λ more. acc ++ more)) (turned n rest begins ∙ ap (λ o. give (λ (x : A × List A). x.0 ∷ x.1) (and_then o (λ a more. repeat_by b item n more))) blames)
+  so_far_blames whole acc rest (DeepStop at) (zero, few, is) begins blames = absurd (omega arith)
+  so_far_blames whole acc rest (DeepStop at) (suc n, few, is) begins blames = is ∙ ap (give (λ more. acc ++ more)) (turned n rest begins ∙ ap (λ o. give (λ (x : A × List A). x.0 ∷ x.1) (and_then o (λ a more. repeat_by b item n more))) blames)
