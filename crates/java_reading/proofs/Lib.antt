@@ -18,3 +18,4 @@ pub mod Imports
 pub mod PartLaws
 pub mod MemberLaws
 pub mod MemberLaw
+pub mod TextLaws
