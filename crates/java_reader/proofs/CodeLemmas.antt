@@ -10,11 +10,11 @@ use Rattle.java_tree.specs.Seen.{java_node, stmt_tree, stmt_trees}
 use Rattle.reading_core.specs.declared.stop.Stop.{Stop}
 use Rattle.reading_core.specs.declared.stop.Stop.TheVariants.{Memory, Wrong, Deep as DeepStop}
 use Rattle.reading_core.specs.Read.{Read, Got, Bad, Deep, ◌>>=◌, at_side}
-use Rattle.statement_reader.specs.declared.form.Reached.{Reached}
-use Rattle.statement_reader.specs.declared.form.Turn.TheVariants.{Goes}
-use Rattle.statement_reader.specs.Readers.{Reader, head, give, and_then, repeat_by, repeat, left_below}
-use Rattle.statement_reader.specs.StatementReading.{turn_of, reached_in, further_in, step_in, statement_at, statement_in, under_at, stmts_of}
-use Rattle.statement_reader.specs.Gives.{Blames}
+use Rattle.java_reading.specs.declared.form.Reached.{Reached}
+use Rattle.java_reading.specs.declared.form.Turn.TheVariants.{Goes}
+use Rattle.java_reading.specs.Readers.{Reader, head, give, and_then, repeat_by, repeat, left_below}
+use Rattle.java_reading.specs.StatementReading.{turn_of, reached_in, further_in, step_in, statement_at, statement_in, under_at, stmts_of}
+use Rattle.java_reading.specs.Gives.{Blames}
 
 -- the place of a tree is its first token's
 pub place_node : (at : ℕ) (node : JavaNode) → place (java_node at node) ≡ at

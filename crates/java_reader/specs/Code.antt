@@ -3,7 +3,7 @@ use Rattle.std.specs.Prelude.{ℕ, Bool, true, false}
 use Rattle.java_tree.specs.Trees.{Expr, Exprs}
 use Rattle.reading_core.specs.Deeper.{bracket, always}
 use Rattle.expression_reading.specs.Reading.{expression_in, arguments_in, below}
-use Rattle.statement_reader.specs.Readers.{Reader}
+use Rattle.java_reading.specs.Readers.{Reader}
 
 -- an expression of code, where so many levels are left
 abbrev pub expression_at : ℕ → Reader Expr

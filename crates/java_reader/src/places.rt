@@ -3,13 +3,13 @@ ghost use Rattle.java_tree.specs.Trees.{Expr, Exprs, Stmt, named as named_tree, 
 ghost use Rattle.java_tree.specs.Expressions.{place};
 ghost use Rattle.java_tree.specs.Seen.{java_tree, java_trees, stmt_tree};
 ghost use Rattle.reading_core.specs.Read.{Read, Got};
-ghost use Rattle.statement_reader.specs.Readers.{give};
-ghost use Rattle.statement_reader.specs.Tokens.{fixed as fixed_lem};
-ghost use Rattle.statement_reader.specs.declared.marks.Fixed.TheVariants.{Semicolon as FixedSemicolon};
-ghost use Rattle.statement_reader.specs.StatementReading.{assigned_in, further_in, named_in, reached_in, step_in};
-ghost use Rattle.statement_reader.specs.Code.{arguments_at, expression_at};
-ghost use Rattle.statement_reader.specs.Gives.{Blames};
-ghost use Rattle.statement_reader.specs.Targets.{called_on, plain_of};
+ghost use Rattle.java_reading.specs.Readers.{give};
+ghost use Rattle.java_reading.specs.Tokens.{fixed as fixed_lem};
+ghost use Rattle.java_reading.specs.declared.marks.Fixed.TheVariants.{Semicolon as FixedSemicolon};
+ghost use Rattle.java_reading.specs.StatementReading.{assigned_in, further_in, named_in, reached_in, step_in};
+ghost use Rattle.java_reader.specs.Code.{arguments_at, expression_at};
+ghost use Rattle.java_reading.specs.Gives.{Blames};
+ghost use Rattle.java_reader.specs.Targets.{called_on, plain_of};
 
 use crate::form::{Reached, Turn, turn_at};
 use crate::marks::Fixed;

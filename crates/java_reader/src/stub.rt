@@ -1,8 +1,8 @@
 ghost use Rattle.std.specs.Prelude.{◌≡◌, ◌<◌, MatchResult, IfOk, length};
 ghost use Rattle.java_tree.specs.Seen.{java_tree, java_trees};
 ghost use Rattle.reading_core.specs.Read.{Got};
-ghost use Rattle.statement_reader.specs.Code.{arguments_at, expression_at};
-ghost use Rattle.statement_reader.specs.Gives.{Blames};
+ghost use Rattle.java_reader.specs.Code.{arguments_at, expression_at};
+ghost use Rattle.java_reading.specs.Gives.{Blames};
 
 use java_lex::Token;
 use java_tree::JavaTree;

@@ -19,3 +19,4 @@ pub mod PartLaws
 pub mod MemberLaws
 pub mod MemberLaw
 pub mod TextLaws
+pub mod TextExact

@@ -2,13 +2,13 @@ use Rattle.std.proofs.Common.{◌≡◌, false, Some, MatchResult, ◌∷◌, ap
 use Rattle.java_tree.specs.Trees.{Stmt}
 use Rattle.java_tree.specs.Seen.{java_tree, stmt_tree}
 use Rattle.reading_core.specs.Read.{Read, Got, at_side}
-use Rattle.statement_reader.specs.declared.form.Turn.TheVariants.{Goes}
-use Rattle.statement_reader.specs.Readers.{left_below}
-use Rattle.statement_reader.specs.StatementReading.{turn_of, reached_in, further_in}
-use Rattle.statement_reader.specs.Code.{arguments_at, expression_at}
-use Rattle.statement_reader.specs.Gives.{Blames}
-use Rattle.statement_reader.proofs.CodeLemmas.{goes_is}
-use Rattle.statement_reader.proofs.places.+places.Goals as goal
+use Rattle.java_reading.specs.declared.form.Turn.TheVariants.{Goes}
+use Rattle.java_reading.specs.Readers.{left_below}
+use Rattle.java_reading.specs.StatementReading.{turn_of, reached_in, further_in}
+use Rattle.java_reader.specs.Code.{arguments_at, expression_at}
+use Rattle.java_reading.specs.Gives.{Blames}
+use Rattle.java_reader.proofs.CodeLemmas.{goes_is}
+use Rattle.java_reader.proofs.places.+places.Goals as goal
 
 pub reached-returns-in-Some-lower-clause-is : goal.reached-returns-in-Some-lower-clause-is
 reached-returns-in-Some-lower-clause-is t c =

@@ -1,5 +1,5 @@
 use Rattle.std.proofs.Common.{◌+◌, ◌*◌}
-use Rattle.statement_reader.proofs.places.+places.Given as goal
+use Rattle.java_reader.proofs.places.+places.Given as goal
 
 abbrev pub decreases-named : goal.decreases-named
 decreases-named l = 3 * l.left + 1
