@@ -1,44 +1,22 @@
--- The law of statements.
-use Rattle.std.proofs.Common.{◌≡◌, ◌⊎◌, ℕ, zero, suc, ◌+◌, ◌≤◌, Bool, true, false, ◌&&◌, List, [], ◌∷◌, ◌++◌, Option, Some, None, refl, sym, ap, ◌∙◌, subst, inl, inr, codes, arith, IsTrue}
+-- With what a statement begins.
+use Rattle.std.proofs.Common.{◌≡◌, ℕ, Bool, true, false, ◌&&◌, List, [], ◌∷◌, ◌++◌, Option, Some, None, refl, sym, ap, ◌∙◌, subst, inl, inr}
 use Rattle.std.specs.List.{list_all}
 use Rattle.java_lex.specs.declared.spelling.Terminal.{Terminal}
 use Rattle.java_lex.specs.declared.spelling.Terminal.TheVariants as terminal
 use Rattle.java_lex.specs.declared.token.Token.{Token}
-use Rattle.java_lex.specs.Terminals.{terminal_of}
-use Rattle.java_tree.specs.declared.names.Ident.{Ident}
 use Rattle.java_tree.specs.declared.names.Modifier.{Modifier}
 use Rattle.java_tree.specs.declared.names.TypeTree.{TypeTree}
 use Rattle.java_tree.specs.declared.names.TypeTree.TheVariants.{Int, Flag, Class as class_type}
-use Rattle.java_tree.specs.Trees.{Expr, num, flag, null, this, outcome, make, named, call, read, call_on, paren, negation, minus, bin, old, quant, quant_in, has, size, Exprs, none, also, Decl, Stmt, block, blank, if_only, if_else, loops, gives_back, local, set, step, run, Stmts, done, next}
-use Rattle.java_tree.specs.Phrases.{Limit, Letter, Phrase, ◌▸◌, letter, ident_of, one, one_at, name, closed, opens, where_, nothing}
-use Rattle.java_tree.specs.Expressions.{phrase, expression, arguments, chained, is_steps, post, or, place, bracketed}
-use Rattle.java_tree.specs.Statements.{is_target, is_place, is_run, stepped, statement, statements, takes_else, condition, returned, is_local_modifier, declarations, type_of}
-use Rattle.reading_core.specs.Read.{Read, Got, Bad, Deep, at_side, ◌>>=◌}
-use Rattle.java_reading.specs.declared.form.Reached.{Reached}
-use Rattle.java_reading.specs.declared.form.Reached.TheVariants.{Bare, Place, Call}
+use Rattle.java_tree.specs.Trees.{Decl, Stmt, block, blank, if_only, if_else, loops, gives_back, local, set, step, run}
+use Rattle.java_tree.specs.Phrases.{Limit, Letter, letter, one, one_at}
+use Rattle.java_tree.specs.Statements.{statement, is_local_modifier, type_of}
 use Rattle.java_reading.specs.declared.form.Form.{Form}
 use Rattle.java_reading.specs.declared.form.Form.TheVariants as form
-use Rattle.java_reading.specs.declared.marks.Fixed.{Fixed}
-use Rattle.java_reading.specs.declared.marks.Fixed.TheVariants.{OpenBrace, CloseBrace, OpenParen, CloseParen, Semicolon, Comma, Assign, Dot, If, Else, While, Return}
-use Rattle.java_reading.specs.Readers.{Reader, head, give, first, second, and_then, opening, deeper_by, optional, repeat, lower}
-use Rattle.java_reading.specs.Tokens.{is_fixed, terminal_of_fixed, stands, fixed, fixed_at, name_in, at_head, next_is, next_is_name, is_name}
+use Rattle.java_reading.specs.Readers.{head}
+use Rattle.java_reading.specs.Tokens.{at_head}
 use Rattle.java_reading.specs.Forms.{form_of, is_some_form, begins_statement}
-use Rattle.java_reading.specs.Expressions.{goes_on, extends, starts}
-use Rattle.java_reading.specs.StatementReading.{reached_in, named_in, further_in, declared_in, local_in, modifiers_in, type_in, condition_in, returned_in, block_in, while_in, else_in, if_in, choice_of, behind_name_in, statement_by, statement_in, statement_at, headed_in, deeper_in, stmts_of}
-use Rattle.java_reading.proofs.Law.{Family, Extends, never, any, Sample, Exact, Law, IsGot, Begun, Allows, Frees, Stops}
-use Rattle.java_reading.proofs.Seq.{seq, seq_law, seq_sample}
-use Rattle.java_reading.proofs.Parts.{give_law, give_at, give_sample, same_law, same_sample, behind, behind_law, bind_law, recast_law, recast_at}
-use Rattle.java_reading.proofs.Levels.{Below, full, room, opened, opening_law, opened_sample}
-use Rattle.java_reading.proofs.Many.{each, many_law, optional_of, optional_law, optional_sample, May_be}
-use Rattle.java_reading.proofs.TokenLaws.{fixed_is, fixed_law, fixed_sample, fixed_decided, fixed_at_law, fixed_at_sample, fixed_at_decided, name_law, name_sample, name_head, one_head, one_at_head, word_at, on_is, on_side}
-use Rattle.java_reading.proofs.Shapes.{then_it, it_then, then_fixed, fixed_then, fixed_then_sample, then_fixed_sample}
-use Rattle.java_reading.proofs.Starts.{arguments_start, expression_starts}
-use Rattle.java_reading.proofs.ModifierLaws.{MF, TF, allowed_head, type_head, TypeToken}
-use Rattle.java_reading.proofs.DeclarationLaws.{EF, EX, SF, KF, ModsF, expression_sample, no_extension, next_at, declared_law, mods_law}
-use Rattle.java_reading.proofs.Tails.{ArgsF, Tail, sets, steps, runs, reads, calls, TailF, NamedF, Matches, one_tail, TailHead, tail_head, tail_sample}
-use Rattle.java_reading.proofs.PlaceLaws.{reached_law, named_law, further_below}
-
-use Rattle.java_reading.proofs.StatementLaws.{Prefix, tail_statement, StartF, Start, arguments_level, is_simple, simple_start}
+use Rattle.java_reading.proofs.TokenLaws.{on_is}
+use Rattle.java_reading.proofs.SimpleStatements.{Start, is_simple, simple_start}
 
 -- WITH WHAT A STATEMENT BEGINS
 

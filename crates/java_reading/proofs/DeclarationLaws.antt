@@ -1,30 +1,29 @@
 -- The laws of declarations.
-use Rattle.std.proofs.Common.{◌≡◌, ◌⊎◌, ℕ, ◌+◌, Bool, true, false, List, [], ◌∷◌, ◌++◌, Option, Some, None, refl, sym, ap, ◌∙◌, subst, inl, inr, codes}
+use Rattle.std.proofs.Common.{◌≡◌, ◌⊎◌, ℕ, ◌+◌, Bool, true, false, List, [], ◌∷◌, Option, Some, None, refl, sym, ap, ◌∙◌, subst, inl, inr, codes}
 use Rattle.java_lex.specs.declared.spelling.Terminal.{Terminal}
 use Rattle.java_lex.specs.declared.spelling.Terminal.TheVariants as terminal
 use Rattle.java_lex.specs.declared.token.Token.{Token}
 use Rattle.java_tree.specs.declared.names.Ident.{Ident}
-use Rattle.java_tree.specs.Trees.{Expr, named, Exprs, none, Decl}
+use Rattle.java_tree.specs.Trees.{Expr, named, Exprs, Decl}
 use Rattle.java_tree.specs.declared.names.Modifier.{Modifier}
 use Rattle.java_tree.specs.declared.names.TypeTree.{TypeTree}
 use Rattle.java_tree.specs.declared.names.TypeTree.TheVariants.{Int, Flag, Class as class_type}
-use Rattle.java_tree.specs.Phrases.{Limit, Letter, ◌▸◌, letter, ident_of, one, name, closed}
-use Rattle.java_tree.specs.Expressions.{expression, arguments}
-use Rattle.java_tree.specs.Statements.{value_of, declaration, more_declarations, declarations, is_local_modifier, type_of}
-use Rattle.reading_core.specs.Read.{Read}
+use Rattle.java_tree.specs.Phrases.{Limit, Letter, ◌▸◌, ident_of, one, name}
+use Rattle.java_tree.specs.Expressions.{expression}
+use Rattle.java_tree.specs.Statements.{value_of, declaration, more_declarations, declarations, is_local_modifier}
 use Rattle.java_reading.specs.declared.marks.Fixed.{Fixed}
-use Rattle.java_reading.specs.declared.marks.Fixed.TheVariants.{OpenParen, CloseParen, Semicolon, Comma, Assign}
-use Rattle.java_reading.specs.Readers.{Reader, head, give, first, second, and_then, optional, repeat}
+use Rattle.java_reading.specs.declared.marks.Fixed.TheVariants.{Semicolon, Comma, Assign}
+use Rattle.java_reading.specs.Readers.{Reader, head, second, and_then, optional}
 use Rattle.java_reading.specs.Tokens.{is_fixed, terminal_of_fixed, fixed, name_in, at_head, next_is}
 use Rattle.java_reading.specs.Expressions.{goes_on, extends}
 use Rattle.java_reading.specs.StatementReading.{value_in, declaration_in, more_declarations_in, declarations_in, declared_in, modifiers_in, type_in}
-use Rattle.java_reading.proofs.Law.{Family, Extends, never, any, Sample, Exact, Law, IsGot}
+use Rattle.java_reading.proofs.Law.{Family, Extends, never, any, Sample, Exact}
 use Rattle.java_reading.proofs.Seq.{seq, seq_law, seq_sample}
-use Rattle.java_reading.proofs.Parts.{give_law, give_sample, same_law, same_sample}
+use Rattle.java_reading.proofs.Parts.{give_law, give_sample, same_law}
 use Rattle.java_reading.proofs.Many.{each, many_law, optional_of, optional_law, optional_sample, May_be}
 use Rattle.java_reading.proofs.ModifierLaws.{MF, MX, TF, TypeToken, allowed_head, modifiers_law, type_law, type_sample, type_head}
-use Rattle.java_reading.proofs.TokenLaws.{fixed_is, fixed_sample, name_law, name_sample, name_head, one_head, word_at, name_decided}
-use Rattle.java_reading.proofs.Shapes.{then_it, it_then, then_fixed, fixed_then, fixed_then_sample, then_fixed_sample}
+use Rattle.java_reading.proofs.TokenLaws.{fixed_is, name_law, name_sample, one_head, word_at}
+use Rattle.java_reading.proofs.Shapes.{then_it, it_then, then_fixed, fixed_then, then_fixed_sample}
 
 abbrev pub EF : Family Expr
 EF May e = expression May e

@@ -1,23 +1,22 @@
 -- The laws of packages and imports.
-use Rattle.std.proofs.Common.{◌≡◌, ◌⊎◌, ℕ, zero, suc, ◌+◌, ◌≤◌, ◌<◌, Bool, true, false, List, [], ◌∷◌, ◌++◌, length, Option, Some, None, refl, sym, ap, ◌∙◌, subst, inl, inr, codes, arith, length-append}
+use Rattle.std.proofs.Common.{◌≡◌, ◌⊎◌, ℕ, zero, suc, ◌<◌, Bool, true, false, List, [], ◌∷◌, ◌++◌, length, Option, Some, None, refl, sym, ap, ◌∙◌, subst, inl, inr, arith, length-append}
 use Rattle.java_lex.specs.declared.spelling.Terminal.{Terminal}
 use Rattle.java_lex.specs.declared.spelling.Terminal.TheVariants as terminal
 use Rattle.java_lex.specs.declared.token.Token.{Token}
 use Rattle.java_tree.specs.declared.names.Ident.{Ident}
-use Rattle.java_tree.specs.Phrases.{Limit, Letter, Phrase, ◌▸◌, letter, ident_of, one, name, any_name, nothing, maybe, either, many, times}
+use Rattle.java_tree.specs.Phrases.{Limit, ◌▸◌, ident_of, one, name, any_name, maybe, either, many, times}
 use Rattle.java_tree.specs.Reading.{any_level}
 use Rattle.java_tree.specs.Members.{dotted, package_line, import_line}
-use Rattle.reading_core.specs.Read.{Read, Got, Bad, Deep, ◌>>=◌}
-use Rattle.java_reading.specs.declared.marks.Fixed.{Fixed}
+use Rattle.reading_core.specs.Read.{◌>>=◌}
 use Rattle.java_reading.specs.declared.marks.Fixed.TheVariants.{Semicolon, Dot, Package, Import, Static, Times}
-use Rattle.java_reading.specs.Readers.{Reader, head, give, first, second, and_then, optional, repeat}
-use Rattle.java_reading.specs.Tokens.{is_fixed, terminal_of_fixed, fixed, name_in, at_head, next_is}
+use Rattle.java_reading.specs.Readers.{Reader, head, second, and_then, optional, repeat}
+use Rattle.java_reading.specs.Tokens.{is_fixed, fixed, name_in, at_head, next_is}
 use Rattle.java_reading.specs.MemberReading.{dotted_in, package_in, import_tail_by, import_in}
 use Rattle.java_reading.proofs.Law.{Family, Extends, never, any, Sample, Exact, Law, IsGot}
 use Rattle.java_reading.proofs.Seq.{seq, seq_law, seq_sample}
-use Rattle.java_reading.proofs.Parts.{give_law, give_sample, same_law, same_sample, bind_law, recast_law, recast_at}
-use Rattle.java_reading.proofs.Many.{each, many_law, optional_of, optional_law, optional_sample, May_be}
-use Rattle.java_reading.proofs.TokenLaws.{fixed_is, fixed_law, fixed_sample, name_law, name_sample, name_head, one_head}
+use Rattle.java_reading.proofs.Parts.{give_law, give_sample, bind_law, recast_at}
+use Rattle.java_reading.proofs.Many.{each, many_law, optional_of, optional_law, May_be}
+use Rattle.java_reading.proofs.TokenLaws.{fixed_law, fixed_sample, name_law, name_sample, one_head}
 use Rattle.java_reading.proofs.Shapes.{then_it, it_then, then_fixed, fixed_then, fixed_then_sample, then_fixed_sample}
 use Rattle.java_reading.proofs.DeclarationLaws.{next_at}
 

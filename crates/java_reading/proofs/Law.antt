@@ -1,12 +1,12 @@
 -- What a reader owes to its phrase.
-use Rattle.std.proofs.Common.{◌≡◌, ◌⊎◌, ℕ, ◌≤◌, ◌<◌, List, [], ◌∷◌, ◌++◌, length, Option, Some, None, refl, sym, ap, subst, ◌∙◌, inl, inr, arith, append_assoc, length-append}
+use Rattle.std.proofs.Common.{◌≡◌, ◌⊎◌, ℕ, ◌≤◌, ◌<◌, List, [], ◌∷◌, ◌++◌, length, Option}
 use Rattle.java_lex.specs.declared.token.Token.{Token}
 use Rattle.java_lex.specs.declared.spelling.Terminal.TheVariants as terminal
 use Rattle.java_lex.specs.Terminals.{terminal_of}
-use Rattle.java_tree.specs.Phrases.{Phrase, Limit, ◌▸◌, nothing, opens, closed}
+use Rattle.java_tree.specs.Phrases.{Phrase, Limit}
 use Rattle.java_tree.specs.Reading.{within_before}
-use Rattle.reading_core.specs.Read.{Read, Got, Bad, Deep, ◌>>=◌}
-use Rattle.java_reading.specs.Readers.{Reader, head, give, with_first, and_then, taken, deeper_by, opening, repeat_by, repeat, optional}
+use Rattle.reading_core.specs.Read.{Read, Got, Bad, Deep}
+use Rattle.java_reading.specs.Readers.{Reader, head}
 
 -- the phrases of the trees of one kind, under a limit on levels
 abbrev pub Family : Type 0 → Type 1

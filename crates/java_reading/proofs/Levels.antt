@@ -1,13 +1,12 @@
 -- The law of a token that opens a level, up to the end of what stands behind it.
-use Rattle.std.proofs.Common.{◌≡◌, ◌⊎◌, ℕ, zero, suc, ◌+◌, ◌≤◌, ◌<◌, Bool, true, false, List, [], ◌∷◌, ◌++◌, length, Option, Some, None, refl, sym, ap, subst, ◌∙◌, inl, inr, arith, append_assoc, length-append}
+use Rattle.std.proofs.Common.{◌≡◌, ◌⊎◌, ℕ, suc, ◌≤◌, Bool, true, false, List, [], ◌∷◌, ◌++◌, Option, Some, None, refl, sym, ap, subst, ◌∙◌, inl, inr, arith}
 use Rattle.java_lex.specs.declared.token.Token.{Token}
-use Rattle.java_tree.specs.Phrases.{Phrase, Limit, ◌▸◌, nothing, token, opens, closed}
-use Rattle.java_tree.specs.Reading.{within_before}
+use Rattle.java_tree.specs.Phrases.{Limit, ◌▸◌, token, opens, closed}
 use Rattle.reading_core.specs.Read.{Read, Got, Bad, Deep, ◌>>=◌}
-use Rattle.java_reading.specs.Readers.{Reader, head, give, with_first, and_then, taken, deeper_by, opening, repeat_by, repeat, optional}
-use Rattle.java_reading.proofs.Law.{Family, Extends, never, any, Allows, Frees, Stops, Sample, IsGot, IsBad, IsDeep, Begun, Law, Exact}
-use Rattle.java_reading.proofs.Seq.{head_append, seq, pair_is}
-use Rattle.java_reading.proofs.Parts.{Decided, token_by, heads, tails}
+use Rattle.java_reading.specs.Readers.{head, with_first, deeper_by, opening}
+use Rattle.java_reading.proofs.Law.{Family, Extends, Sample, Begun, Law, Exact}
+use Rattle.java_reading.proofs.Seq.{pair_is}
+use Rattle.java_reading.proofs.Parts.{Decided, heads, tails}
 
 abbrev pub opened : {A B : Type 0} → (A → Token → Type 0) → Family B → Family (A × B)
 opened P body May ab = closed (token (P ab.0) ▸ opens May ▸ body May ab.1)
@@ -19,7 +18,6 @@ pub data Below (B : Type 0) (body : Family B) (X S : Extends B) (l : ℕ) : Opti
 
 module _ (A B : Type 0) (P : A → Token → Type 0) (test : Token → Bool) (value : Token → A) (decided : Decided A P test value)
     (body : Family B) (X S : Extends B) (sample : (l : ℕ) → Sample B body l) (l : ℕ) where
-
   abbrev OX : Extends (A × B)
   OX ab h = X ab.1 h
 
@@ -39,8 +37,7 @@ module _ (A B : Type 0) (P : A → Token → Type 0) (test : Token → Bool) (va
   opened_body May t ab us k r (m, (l1, us1, (u, is, parts, up), (k2, us2, (up2, may, same), h)), e) =
       let e1 : us1 ≡ us = tails t u us us1 parts in
       let e2 : us2 ≡ us = same ∙ e1 in
-      let e3 : k2 ≡ suc l = up2 ∙ ap suc up in
-      (
+      let e3 : k2 ≡ suc l = up2 ∙ ap suc up in (
         subst (P ab.0) (sym (heads t u us us1 parts)) is,
         subst (λ (n : ℕ). May n us) e3 (subst (May k2) e1 may),
         (m, subst (λ (n : ℕ). body May ab.1 n us m r) e3 (subst (λ (v : List Token). body May ab.1 k2 v m r) e2 h)),

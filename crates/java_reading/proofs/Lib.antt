@@ -10,13 +10,13 @@ pub mod ModifierLaws
 pub mod DeclarationLaws
 pub mod Tails
 pub mod PlaceLaws
-pub mod StatementLaws
+pub mod SimpleStatements
 pub mod Beginnings
-pub mod StatementExact
+pub mod StatementForms
 pub mod StatementLaw
 pub mod Imports
 pub mod PartLaws
-pub mod MemberLaws
+pub mod MemberForms
 pub mod MemberLaw
 pub mod TextLaws
 pub mod TextExact

@@ -1,12 +1,12 @@
 -- The laws of a part that comes any number of times, and of one that may be missing.
-use Rattle.std.proofs.Common.{◌≡◌, ◌⊎◌, ℕ, zero, suc, ◌+◌, ◌≤◌, ◌<◌, Bool, true, false, List, [], ◌∷◌, ◌++◌, length, Option, Some, None, refl, sym, ap, subst, ◌∙◌, inl, inr, arith, append_assoc, length-append}
+use Rattle.std.proofs.Common.{◌≡◌, ◌⊎◌, ℕ, zero, suc, ◌<◌, Bool, true, false, List, [], ◌∷◌, ◌++◌, length, Option, Some, None, refl, sym, ap, subst, ◌∙◌, inl, inr, arith, length-append}
 use Rattle.java_lex.specs.declared.token.Token.{Token}
-use Rattle.java_tree.specs.Phrases.{Phrase, Limit, ◌▸◌, nothing, token, opens, closed}
-use Rattle.java_tree.specs.Reading.{within_before, any_level}
-use Rattle.reading_core.specs.Read.{Read, Got, Bad, Deep, ◌>>=◌}
-use Rattle.java_reading.specs.Readers.{Reader, head, give, with_first, and_then, taken, deeper_by, opening, repeat_by, repeat, optional}
-use Rattle.java_reading.proofs.Law.{Family, Extends, never, any, Allows, Frees, Stops, Sample, IsGot, IsBad, IsDeep, Begun, Law, Exact}
-use Rattle.java_reading.proofs.Seq.{head_append, seq, pair_is, seq_law}
+use Rattle.java_tree.specs.Phrases.{Limit, ◌▸◌, nothing}
+use Rattle.java_tree.specs.Reading.{any_level}
+use Rattle.reading_core.specs.Read.{Read, Got}
+use Rattle.java_reading.specs.Readers.{Reader, head, give, and_then, repeat_by, repeat, optional}
+use Rattle.java_reading.proofs.Law.{Family, Extends, any, Sample, IsGot, Law, Exact}
+use Rattle.java_reading.proofs.Seq.{seq, seq_law}
 use Rattle.java_reading.proofs.Parts.{give_law, recast_at}
 
 -- one p behind the other
@@ -20,7 +20,6 @@ module _ (A : Type 0) (p : Family A) (X S : Extends A) (b : Option Token → Boo
     (apart : (h : Option Token) → E h → b h ≡ true → ⊥)
     (none : b None ≡ false)
     (l : ℕ) where
-
   abbrev pub More : Extends (List A)
   More as_ h = (b h ≡ true) ⊎ E h
 
@@ -85,7 +84,6 @@ optional_of p May (Some a) = p May a
 module _ (A : Type 0) (p : Family A) (X S : Extends A) (b : Option Token → Bool)
     (first : (May : Limit) (a : A) (l : ℕ) (us : List Token) (k : ℕ) (r : List Token) → p May a l us k r → b (head us) ≡ true)
     (l : ℕ) where
-
   abbrev pub May_be : Extends (Option A)
   May_be None h = b h ≡ true
   May_be (Some a) h = X a h

@@ -1,46 +1,33 @@
--- The law of members, by what stands first.
-use Rattle.std.proofs.Common.{◌≡◌, ◌⊎◌, ℕ, zero, suc, ◌+◌, ◌≤◌, ◌<◌, Bool, true, false, not, ◌&&◌, ◌||◌, List, [], ◌∷◌, ◌++◌, length, Option, Some, None, refl, sym, ap, ◌∙◌, subst, inl, inr, codes, arith, filter, cond, ◌==◌, option_map}
-use Rattle.std.specs.List.{list_all, list_any, filter_map, flat_map, cons_option}
+-- The law of members.
+use Rattle.std.proofs.Common.{◌≡◌, ◌⊎◌, ℕ, ◌+◌, Bool, true, false, List, [], ◌∷◌, ◌++◌, Option, Some, None, refl, sym, ap, ◌∙◌, subst, inl, inr}
+use Rattle.std.specs.List.{list_all}
 use Rattle.java_lex.specs.declared.spelling.Terminal.{Terminal}
 use Rattle.java_lex.specs.declared.spelling.Terminal.TheVariants as terminal
 use Rattle.java_lex.specs.declared.token.Token.{Token}
 use Rattle.java_lex.specs.Terminals.{terminal_of}
-use Rattle.java_tree.specs.declared.names.Ident.{Ident}
-use Rattle.java_tree.specs.declared.names.ModWord.{ModWord}
-use Rattle.java_tree.specs.declared.names.ModWord.TheVariants.{Static as StaticWord, Nullable, NonNull, NullableByDefault, NonNullByDefault}
-use Rattle.java_tree.specs.declared.names.Modifier.{Modifier}
 use Rattle.java_tree.specs.declared.names.TypeTree.{TypeTree}
 use Rattle.java_tree.specs.declared.names.TypeTree.TheVariants.{Int, Flag, Class as class_type}
-use Rattle.java_tree.specs.Trees.{Expr, Exprs, Stmt, Stmts, done, next, Clause, needs, gives, Param, Method, Part, invariant, field, method}
-use Rattle.java_tree.specs.Phrases.{Limit, Letter, Phrase, ◌▸◌, letter, ident_of, one, one_at, name, closed, nothing, where_, either, maybe}
-use Rattle.java_tree.specs.Expressions.{predicate}
-use Rattle.java_tree.specs.Statements.{is_local_modifier, is_null, type_of, modifiers, statements, in_order, kept, kept_word, rank}
-use Rattle.java_tree.specs.Members.{is_modifier, is_method_modifier, visibility, parameters, more_names, clause, clauses, some_clauses, specification, procedure, part, member, result_of, Written, empty, one_part, fields}
-use Rattle.reading_core.specs.Read.{Read, Got, Bad, Deep, ◌>>=◌, at_side, on}
-use Rattle.java_reading.specs.declared.marks.Fixed.{Fixed}
-use Rattle.java_reading.specs.declared.marks.Fixed.TheVariants.{OpenBrace, CloseBrace, OpenParen, CloseParen, Semicolon, Comma, Requires, Ensures, Invariant, NormalBehavior}
+use Rattle.java_tree.specs.Trees.{Expr, Exprs, Clause, needs, gives, invariant}
+use Rattle.java_tree.specs.Phrases.{Limit, Letter, letter, one, one_at}
+use Rattle.java_tree.specs.Members.{is_method_modifier, visibility, clause, member, result_of, Written, empty, one_part}
+use Rattle.reading_core.specs.Read.{Got, on}
+use Rattle.java_reading.specs.declared.marks.Fixed.TheVariants.{Semicolon, Invariant, NormalBehavior}
 use Rattle.java_reading.specs.declared.part_form.PartForm.{PartForm}
 use Rattle.java_reading.specs.declared.part_form.PartForm.TheVariants as form
-use Rattle.java_reading.specs.Readers.{Reader, head, give, first, second, and_then, optional, repeat, taken}
-use Rattle.java_reading.specs.Tokens.{is_fixed, terminal_of_fixed, fixed, fixed_at, name_in, at_head, next_is}
+use Rattle.java_reading.specs.Readers.{Reader, head, and_then}
+use Rattle.java_reading.specs.Tokens.{is_fixed, fixed, fixed_at, at_head, next_is}
 use Rattle.java_reading.specs.PartForms.{part_form_of, is_part, head_part, begins_part}
-use Rattle.java_reading.specs.StatementReading.{modifiers_in, type_in, statement_at, statements_in, stmts_of, is_type, type_by}
-use Rattle.java_reading.specs.MemberReading.{is_clause, clauses_in, is_static, has_static, is_result, result_by, result_in, parameters_in, names_in, body_in, method_in, named_part_in, declared_part_in, normal_in, specified_in, visible_in, invariant_in, part_by_form, member_in}
-use Rattle.java_reading.proofs.Law.{Family, Extends, never, any, Sample, Exact, Law, IsGot}
-use Rattle.java_reading.proofs.Seq.{seq, seq_law, seq_sample}
-use Rattle.java_reading.proofs.Parts.{Decided, token_by, token_law, token_sample, give_law, give_at, give_sample, same_law, same_sample, bind_law, recast_law, recast_at, behind, behind_law, heads, tails}
-use Rattle.java_reading.proofs.TokenLaws.{fixed_is, fixed_law, fixed_sample, fixed_at_law, fixed_at_sample, name_law, name_sample, name_head, one_head, one_at_head, on_is, on_side, word_at}
-use Rattle.java_reading.proofs.Shapes.{then_it, it_then, then_fixed, fixed_then, fixed_then_sample, then_fixed_sample}
-use Rattle.java_reading.proofs.ModifierLaws.{MF, MX, TF, TypeToken, allowed_head, modifiers_law, modifiers_sample, type_law, type_sample, type_head, type_decided}
-use Rattle.java_reading.proofs.DeclarationLaws.{EF, EX, next_at}
+use Rattle.java_reading.specs.MemberReading.{is_clause, clauses_in, declared_part_in, normal_in, specified_in, visible_in, invariant_in, part_by_form, member_in}
+use Rattle.java_reading.proofs.Law.{Family, Extends, never, any, Sample, Exact, Law}
+use Rattle.java_reading.proofs.Seq.{seq, seq_law}
+use Rattle.java_reading.proofs.Parts.{give_law, give_sample, bind_law, recast_at, behind, behind_law, tails}
+use Rattle.java_reading.proofs.TokenLaws.{fixed_is, fixed_law, fixed_sample, fixed_at_law, one_head, one_at_head}
+use Rattle.java_reading.proofs.Shapes.{then_it}
+use Rattle.java_reading.proofs.DeclarationLaws.{EF, EX}
 use Rattle.java_reading.proofs.Tails.{ArgsF}
 use Rattle.java_reading.proofs.Beginnings.{and_left}
-use Rattle.java_reading.proofs.StatementExact.{StF, SX, SS, EndX, brace_closes, statements_law, body_to, body_from}
-use Rattle.java_reading.proofs.StatementLaw.{statement_law}
-use Rattle.java_reading.proofs.Many.{each}
-use Rattle.java_reading.proofs.PartLaws.{closed_of, closed_law, closed_sample, PF, PX, EndedF, ended_law, ended_sample, ClauseF, begins_clause, clause_first, ClausesF, ClausesX, clauses_law, ParamsF, ParamsX, parameters_law, paren_closes, NamesF, names_law, names_sample, names_head, type_no_modifier}
-
-use Rattle.java_reading.proofs.MemberLaws.{decl_member, method_plain, RF, DeclF, decl_law, decl_sample, InvF, SpecF, NormF, VisF, MemF, Parted, semicolon, visible, condition, behavior, with_clauses, without, parted_of, parted_to}
+use Rattle.java_reading.proofs.PartLaws.{PF, PX, ended_law, ended_sample, begins_clause, ClausesF, ClausesX, clauses_law}
+use Rattle.java_reading.proofs.MemberForms.{decl_member, DeclF, decl_law, decl_sample, InvF, SpecF, NormF, VisF, MemF, Parted, semicolon, visible, condition, behavior, with_clauses, without, parted_of, parted_to}
 
 one_part_form : (side : Bool) (x : Terminal) (l : ℕ) (us : List Token) (k : ℕ) (r : List Token) → one (side, x) l us k r → head_part (head us) ≡ part_form_of (side, x)
 one_part_form side x l us k r (t, is, parts, up) = ap (λ v. head_part (head v)) parts ∙ ap part_form_of is
@@ -136,7 +123,7 @@ seen_tail t l us m us1 (inr (inr (t', is, parts, up))) = (tails t t' us us1 part
 
 seen_plain : (t : Token) → part_form_of (letter t) ≡ form.Visible → terminal_of t ≡ terminal.End → ⊥
 seen_plain t is end = elim (visible_letter (letter t) is) [
-  inl e ↦ (let f : terminal.Public ≡ terminal.End = sym (ap (λ (z : Letter). z.1) e) ∙ end in cc)
+  | inl e ↦ (let f : terminal.Public ≡ terminal.End = sym (ap (λ (z : Letter). z.1) e) ∙ end in cc)
   | inr (inl e) ↦ (let f : terminal.Protected ≡ terminal.End = sym (ap (λ (z : Letter). z.1) e) ∙ end in cc)
   | inr (inr e) ↦ (let f : terminal.Private ≡ terminal.End = sym (ap (λ (z : Letter). z.1) e) ∙ end in cc)
 ]
@@ -155,7 +142,6 @@ module _ (expression : ℕ → Reader Expr) (arguments : ℕ → Reader Exprs) (
     (arguments_law : (left l : ℕ) → l + left ≡ 64 → Exact Exprs ArgsF never any l (arguments left)) (arguments_sample : (l : ℕ) → Sample Exprs ArgsF l)
     (predicate_law : (left l : ℕ) → l + left ≡ 64 → Exact Expr PF PX any l (predicate_in left)) (predicate_sample : (l : ℕ) → Sample Expr PF l)
     (left l : ℕ) (sum : l + left ≡ 64) where
-
   abbrev CF : Family (List Clause)
   CF = ClausesF expression arguments predicate_in predicate_law predicate_sample left l sum
 

@@ -1,5 +1,5 @@
 -- The laws of modifiers and of types.
-use Rattle.std.proofs.Common.{◌≡◌, ◌⊎◌, ℕ, Bool, true, false, List, [], ◌∷◌, ◌++◌, Option, Some, None, refl, sym, ap, ◌∙◌, subst, inl, inr, IsTrue, ◌&&◌, append_assoc, append-nil, codes}
+use Rattle.std.proofs.Common.{◌≡◌, ◌⊎◌, ℕ, Bool, true, false, List, [], ◌∷◌, ◌++◌, Option, Some, None, refl, sym, ap, ◌∙◌, subst, inl, inr, ◌&&◌, append_assoc, append-nil, codes}
 use Rattle.std.specs.List.{list_all, filter_map, cons_option}
 use Rattle.java_lex.specs.declared.spelling.Terminal.{Terminal}
 use Rattle.java_lex.specs.declared.spelling.Terminal.TheVariants as terminal
@@ -8,15 +8,14 @@ use Rattle.java_lex.specs.Terminals.{terminal_of}
 use Rattle.java_tree.specs.declared.names.Modifier.{Modifier}
 use Rattle.java_tree.specs.declared.names.TypeTree.{TypeTree}
 use Rattle.java_tree.specs.declared.names.TypeTree.TheVariants.{Int, Flag, Class as class_type}
-use Rattle.java_tree.specs.Phrases.{Letter, letter, ident_of, Limit, one, name}
+use Rattle.java_tree.specs.Phrases.{Letter, letter, ident_of, Limit}
 use Rattle.java_tree.specs.Statements.{modifiers, in_order, kept, type_of}
-use Rattle.reading_core.specs.Read.{Read, Got, Bad, Deep, at_side}
-use Rattle.java_reading.specs.Readers.{Reader, head}
-use Rattle.java_reading.specs.Tokens.{at_head}
+use Rattle.reading_core.specs.Read.{Read, Got, at_side}
+use Rattle.java_reading.specs.Readers.{head}
 use Rattle.java_reading.specs.StatementReading.{gather, modifiers_in, is_type, type_by, type_in}
-use Rattle.java_reading.proofs.Law.{Family, Extends, never, any, Sample, Exact, Law, IsGot, Plain, Allows}
+use Rattle.java_reading.proofs.Law.{Family, Extends, never, any, Sample, Exact, Law, Plain}
 use Rattle.java_reading.proofs.Parts.{Decided, token_by, token_law, token_sample, same_law, same_sample, heads, tails}
-use Rattle.java_reading.proofs.TokenLaws.{on_is, on_side, word_at, one_head, name_head}
+use Rattle.java_reading.proofs.TokenLaws.{on_is, on_side, word_at}
 
 both_left : (a b : Bool) → (a && b) ≡ true → a ≡ true
 both_left true b e = refl
@@ -77,7 +76,7 @@ module _ (allowed : Letter → Bool) where
   other_front (t ∷ f) [] c r parts all all' ends = inr (sym (ap (λ v. allowed_head allowed (head v)) parts) ∙ both_left (allowed (letter t)) _ all)
   other_front (t ∷ f) (u ∷ g) c r parts all all' ends =
       elim (other_front f g c r (sym (tails t u (f ++ c) (g ++ r) parts)) (both_right (allowed (letter t)) _ all) (both_right (allowed (letter u)) _ all') ends) [
-        inl e ↦ inl (let e0 : g ≡ f = e.0 in let e1 : t ≡ u = heads t u (f ++ c) (g ++ r) parts in cc, e.1)
+        | inl e ↦ inl (let e0 : g ≡ f = e.0 in let e1 : t ≡ u = heads t u (f ++ c) (g ++ r) parts in cc, e.1)
         | inr x ↦ inr x
       ]
 
@@ -100,7 +99,7 @@ module _ (allowed : Letter → Bool) where
             → ((mods ≡ in_order (filter_map kept f.front)) × (k ≡ l) × (r ≡ c)) ⊎ MX mods (head r)
         only_one May c same mods k r (g, parts, all, is, up) =
             elim (other_front f.front g c r parts f.all all (ap (allowed_head allowed) (sym same) ∙ f.ends)) [
-              inl e ↦ inl (is ∙ ap (λ v. in_order (filter_map kept v)) e.0, up, e.1)
+              | inl e ↦ inl (is ∙ ap (λ v. in_order (filter_map kept v)) e.0, up, e.1)
               | inr x ↦ inr x
             ]
 

@@ -1,39 +1,35 @@
 -- The laws of clauses, parameters, and what stands behind the name of a method or a field.
-use Rattle.std.proofs.Common.{◌≡◌, ◌⊎◌, ℕ, zero, suc, ◌+◌, ◌≤◌, ◌<◌, Bool, true, false, not, ◌||◌, List, [], ◌∷◌, ◌++◌, length, Option, Some, None, refl, sym, ap, ◌∙◌, subst, inl, inr, codes, arith}
-use Rattle.std.specs.List.{list_all}
+use Rattle.std.proofs.Common.{◌≡◌, ◌⊎◌, ℕ, ◌+◌, Bool, true, false, not, List, [], ◌∷◌, Option, Some, None, refl, sym, ap, ◌∙◌, subst, inl, inr, codes}
 use Rattle.java_lex.specs.declared.spelling.Terminal.{Terminal}
 use Rattle.java_lex.specs.declared.spelling.Terminal.TheVariants as terminal
 use Rattle.java_lex.specs.declared.token.Token.{Token}
-use Rattle.java_lex.specs.Terminals.{terminal_of}
 use Rattle.java_tree.specs.declared.names.Ident.{Ident}
 use Rattle.java_tree.specs.declared.names.Modifier.{Modifier}
 use Rattle.java_tree.specs.declared.names.TypeTree.{TypeTree}
 use Rattle.java_tree.specs.declared.names.TypeTree.TheVariants.{Int, Flag, Class as class_type}
-use Rattle.java_tree.specs.Trees.{Expr, local, named, Exprs, Stmt, Clause, needs, gives, Param, Method, Part, invariant, field, method}
-use Rattle.java_tree.specs.Phrases.{Limit, Letter, Phrase, ◌▸◌, letter, ident_of, one, one_at, name, closed, nothing, where_}
+use Rattle.java_tree.specs.Trees.{Expr, local, Exprs, Clause, needs, gives, Param}
+use Rattle.java_tree.specs.Phrases.{Limit, Letter, ◌▸◌, letter, one, name, closed, nothing, where_}
 use Rattle.java_tree.specs.Expressions.{predicate}
-use Rattle.java_tree.specs.Statements.{is_local_modifier, type_of, modifiers, statements}
-use Rattle.java_tree.specs.Members.{parameter, more_parameters, parameters, more_names, clause, clauses, result_of, Written, empty, one_part, fields}
-use Rattle.reading_core.specs.Read.{Read, Got, Bad, Deep, ◌>>=◌, at_side}
+use Rattle.java_tree.specs.Statements.{is_local_modifier, type_of}
+use Rattle.java_tree.specs.Members.{parameter, more_parameters, parameters, more_names, clause, clauses}
+use Rattle.reading_core.specs.Read.{Read, Got, Bad, Deep, at_side}
 use Rattle.java_reading.specs.declared.marks.Fixed.{Fixed}
-use Rattle.java_reading.specs.declared.marks.Fixed.TheVariants.{OpenBrace, CloseBrace, OpenParen, CloseParen, Semicolon, Comma, Requires, Ensures, Invariant, NormalBehavior}
-use Rattle.java_reading.specs.Readers.{Reader, head, give, first, second, and_then, optional, repeat, taken}
-use Rattle.java_reading.specs.Tokens.{is_fixed, terminal_of_fixed, fixed, fixed_at, name_in, at_head, next_is}
-use Rattle.java_reading.specs.Forms.{form_of, begins_statement}
+use Rattle.java_reading.specs.declared.marks.Fixed.TheVariants.{OpenParen, CloseParen, Semicolon, Comma}
+use Rattle.java_reading.specs.Readers.{Reader, head, give, second, and_then, optional, repeat}
+use Rattle.java_reading.specs.Tokens.{is_fixed, terminal_of_fixed, fixed, name_in, at_head, next_is}
+use Rattle.java_reading.specs.Forms.{begins_statement}
 use Rattle.java_reading.specs.Expressions.{goes_on, extends}
-use Rattle.java_reading.specs.StatementReading.{modifiers_in, type_in, statements_in, stmts_of, is_type, type_by}
-use Rattle.java_reading.specs.MemberReading.{is_clause, is_requires, clause_word_in, clause_of, clause_in, clauses_in, is_result, result_by, result_in, parameter_in, more_parameters_in, not_close, listed, parameters_in, names_in, body_in}
-use Rattle.java_reading.proofs.Law.{Family, Extends, never, any, Sample, Exact, Law, IsGot, IsBad, IsDeep}
+use Rattle.java_reading.specs.StatementReading.{modifiers_in, type_in}
+use Rattle.java_reading.specs.MemberReading.{is_clause, is_requires, clause_word_in, clause_of, clause_in, clauses_in, parameter_in, more_parameters_in, not_close, listed, parameters_in, names_in}
+use Rattle.java_reading.proofs.Law.{Family, Extends, never, any, Sample, Exact, Law}
 use Rattle.java_reading.proofs.Seq.{seq, seq_law, seq_sample}
-use Rattle.java_reading.proofs.Parts.{Decided, token_by, token_law, token_sample, give_law, give_at, give_sample, same_law, same_sample, bind_law, recast_law, recast_at}
-use Rattle.java_reading.proofs.Many.{each, many_law, optional_of, optional_law, optional_sample, May_be}
-use Rattle.java_reading.proofs.TokenLaws.{fixed_is, fixed_law, fixed_sample, fixed_at_law, fixed_at_sample, name_law, name_sample, name_head, one_head, on_is, on_side, word_at}
-use Rattle.java_reading.proofs.Shapes.{then_it, it_then, then_fixed, fixed_then, fixed_then_sample, then_fixed_sample}
-use Rattle.java_reading.proofs.ModifierLaws.{MF, MX, TF, TypeToken, allowed_head, modifiers_law, modifiers_sample, type_law, type_sample, type_head, type_decided}
-use Rattle.java_reading.proofs.DeclarationLaws.{EF, EX, next_at, local_plain}
-use Rattle.java_reading.proofs.Tails.{ArgsF}
-use Rattle.java_reading.proofs.Beginnings.{local_fits, fits_some, some_begins, no_statement, head_form, fits}
-use Rattle.java_reading.proofs.StatementExact.{StF, SX, SS, ManyF, EndX, brace_closes, statements_law, body_to, body_from}
+use Rattle.java_reading.proofs.Parts.{Decided, token_by, token_law, give_law, give_sample, same_law}
+use Rattle.java_reading.proofs.Many.{each, many_law, optional_of, optional_law, May_be}
+use Rattle.java_reading.proofs.TokenLaws.{fixed_sample, name_law, name_sample, one_head, on_is, on_side, word_at}
+use Rattle.java_reading.proofs.Shapes.{then_it, it_then, then_fixed, fixed_then, then_fixed_sample}
+use Rattle.java_reading.proofs.ModifierLaws.{MF, MX, TF, TypeToken, allowed_head, modifiers_law, type_law, type_sample, type_head}
+use Rattle.java_reading.proofs.DeclarationLaws.{next_at, local_plain}
+use Rattle.java_reading.proofs.Beginnings.{local_fits, fits_some, some_begins, no_statement, head_form}
 
 -- THE LEVELS OF A PART END WITH IT
 
@@ -131,7 +127,6 @@ clause_first May (gives at e) l us k r (m, mid, (t, is, parts, up), h') = ap (λ
 
 module _ (expression : ℕ → Reader Expr) (arguments : ℕ → Reader Exprs) (predicate_in : ℕ → Reader Expr)
     (predicate_law : (left l : ℕ) → l + left ≡ 64 → Exact Expr PF PX any l (predicate_in left)) (predicate_sample : (l : ℕ) → Sample Expr PF l) (left l : ℕ) (sum : l + left ≡ 64) where
-
   -- a predicate and its `;`
   abbrev pub EndedF : Family (Expr × Unit {0})
   EndedF = then_it true Semicolon refl (λ e. cc) PF

@@ -1,13 +1,13 @@
 -- The laws of tokens, levels, choices and repetitions.
-use Rattle.std.proofs.Common.{◌≡◌, ◌⊎◌, ℕ, zero, suc, ◌+◌, ◌≤◌, ◌<◌, Bool, true, false, List, [], ◌∷◌, ◌++◌, length, Option, Some, None, refl, sym, ap, subst, ◌∙◌, inl, inr, arith, append_assoc, length-append}
+use Rattle.std.proofs.Common.{◌≡◌, ◌⊎◌, ℕ, Bool, true, false, List, [], ◌∷◌, ◌++◌, Option, Some, None, refl, sym, ap, subst, ◌∙◌, inl, inr}
 use Rattle.java_lex.specs.declared.token.Token.{Token}
 use Rattle.java_lex.specs.declared.spelling.Terminal.TheVariants as terminal
 use Rattle.java_lex.specs.Terminals.{terminal_of}
-use Rattle.java_tree.specs.Phrases.{Phrase, Limit, ◌▸◌, nothing, token, opens, closed}
-use Rattle.java_tree.specs.Reading.{within_before, any_level}
+use Rattle.java_tree.specs.Phrases.{Limit, token}
+use Rattle.java_tree.specs.Reading.{any_level}
 use Rattle.reading_core.specs.Read.{Read, Got, Bad, Deep, ◌>>=◌}
-use Rattle.java_reading.specs.Readers.{Reader, head, give, with_first, and_then, taken, deeper_by, opening, repeat_by, repeat, optional}
-use Rattle.java_reading.proofs.Law.{Family, Extends, never, any, Allows, Frees, Stops, Sample, IsGot, IsBad, IsDeep, Begun, Law, Exact}
+use Rattle.java_reading.specs.Readers.{head, give, with_first, and_then, taken}
+use Rattle.java_reading.proofs.Law.{Family, Extends, never, any, Sample, IsGot, Begun, Law, Exact}
 use Rattle.java_reading.proofs.Seq.{head_append, seq, seq_law}
 
 -- TOKENS
@@ -76,7 +76,6 @@ module _ (A B : Type 0) (p : Family A) (X S : Extends A) (q : Family B) (Y R : E
     (is : (May : Limit) (a : A) (us : List Token) (k : ℕ) (r : List Token) → p May a l us k r → q May (build a) l us k r)
     (grows : (a : A) (h : Option Token) → X a h → Y (build a) h)
     (stops : (a : A) (h : Option Token) → S a h → R (build a) h) where
-
   abbrev pub Back : List Token → Type 1
   Back ts = (May : Limit) (b : B) (us : List Token) (k : ℕ) (r : List Token) → head us ≡ head ts → q May b l us k r → ((a : A) × (b ≡ build a) × p May a l us k r) ⊎ Y b (head r)
 
@@ -94,7 +93,7 @@ module _ (A B : Type 0) (p : Family A) (X S : Extends A) (q : Family B) (Y R : E
     sound = λ May allows c. is May a (law.front ++ c) l c (law.sound May allows c);
     stop = stops a (head rest) law.stop;
     only = λ May c h b k r parse. elim (back May b (law.front ++ c) k r (same_head ts law.front rest c law.parts h) parse) [
-      inl e ↦ elim (law.only May c h e.0 k r e.2) [ inl e' ↦ inl (e.1 ∙ ap build e'.0, e'.1, e'.2) | inr x ↦ inr (subst (λ (v : B). Y v (head r)) (sym e.1) (grows e.0 (head r) x)) ]
+      | inl e ↦ elim (law.only May c h e.0 k r e.2) [ inl e' ↦ inl (e.1 ∙ ap build e'.0, e'.1, e'.2) | inr x ↦ inr (subst (λ (v : B). Y v (head r)) (sym e.1) (grows e.0 (head r) x)) ]
       | inr y ↦ inr y
     ];
   }
@@ -104,7 +103,7 @@ module _ (A B : Type 0) (p : Family A) (X S : Extends A) (q : Family B) (Y R : E
     plain = law.plain;
     before = begun_given ts law.front law.before;
     only = λ May c h b k r parse. elim (back May b (law.front ++ c) k r (same_head ts law.front rest c law.parts h) parse) [
-      inl e ↦ subst (λ (v : B). Y v (head r)) (sym e.1) (grows e.0 (head r) (law.only May c h e.0 k r e.2))
+      | inl e ↦ subst (λ (v : B). Y v (head r)) (sym e.1) (grows e.0 (head r) (law.only May c h e.0 k r e.2))
       | inr y ↦ y
     ];
   }
@@ -117,7 +116,7 @@ module _ (A B : Type 0) (p : Family A) (X S : Extends A) (q : Family B) (Y R : E
     plain = law.plain;
     before = begun_given ts law.front law.before;
     only = λ May c stops' b k r parse. elim (back May b (law.front ++ law.at ∷ c) k r (same_head ts law.front rest (law.at ∷ c) law.parts (ap head law.here)) parse) [
-      inl e ↦ subst (λ (v : B). Y v (head r)) (sym e.1) (grows e.0 (head r) (law.only May c stops' e.0 k r e.2))
+      | inl e ↦ subst (λ (v : B). Y v (head r)) (sym e.1) (grows e.0 (head r) (law.only May c stops' e.0 k r e.2))
       | inr y ↦ y
     ];
     more = law.more;
@@ -140,7 +139,6 @@ module _ (A : Type 0) (p q : Family A) (X S : Extends A)
     (to : (May : Limit) (a : A) (l : ℕ) (us : List Token) (k : ℕ) (r : List Token) → p May a l us k r → q May a l us k r)
     (from : (May : Limit) (a : A) (l : ℕ) (us : List Token) (k : ℕ) (r : List Token) → q May a l us k r → p May a l us k r)
     (l : ℕ) where
-
   begun_same : (ts front : List Token) → Begun A p X S l ts front → Begun A q X S l ts front
   begun_same ts front begun = record { more = begun.more; tree = begun.tree; is = λ May c allows. to May begun.tree l (front ++ (begun.more ++ c)) l c (begun.is May c allows) }
 

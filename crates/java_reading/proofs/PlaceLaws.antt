@@ -1,36 +1,32 @@
 -- The laws of assignments and calls: what stands before each `.` is read before what stands behind it.
-use Rattle.std.proofs.Common.{◌≡◌, ◌⊎◌, ℕ, zero, suc, ◌+◌, ◌≤◌, Bool, true, false, List, [], ◌∷◌, ◌++◌, Option, Some, None, refl, sym, ap, ◌∙◌, subst, inl, inr, codes, arith, IsTrue}
+use Rattle.std.proofs.Common.{◌≡◌, ◌⊎◌, ℕ, zero, suc, ◌+◌, Bool, true, false, List, [], ◌∷◌, Option, Some, None, refl, sym, ap, ◌∙◌, subst, inl, inr, arith}
 use Rattle.java_lex.specs.declared.spelling.Terminal.{Terminal}
 use Rattle.java_lex.specs.declared.spelling.Terminal.TheVariants as terminal
 use Rattle.java_lex.specs.declared.token.Token.{Token}
-use Rattle.java_lex.specs.declared.token.TokenKind.TheVariants as kind
 use Rattle.java_lex.specs.Terminals.{terminal_of}
 use Rattle.java_tree.specs.declared.names.Ident.{Ident}
-use Rattle.java_tree.specs.Trees.{Expr, num, flag, null, this, outcome, make, named, call, read, call_on, paren, negation, minus, bin, old, quant, quant_in, has, size, Exprs, none, also, Decl, Stmt, block, blank, if_only, if_else, loops, gives_back, local, set, step, run, Stmts, done, next}
-use Rattle.java_tree.specs.Phrases.{Limit, Letter, Phrase, ◌▸◌, letter, ident_of, one, one_at, name, closed, opens, where_}
-use Rattle.java_tree.specs.Expressions.{phrase, expression, arguments, chained, is_steps, post, or, place}
-use Rattle.java_tree.specs.Statements.{is_target, is_place, is_run, stepped, statement}
-use Rattle.reading_core.specs.Read.{Read, Got, Bad, Deep, at_side, ◌>>=◌}
+use Rattle.java_tree.specs.Trees.{Expr, read, call_on, Exprs, Stmt, set, step, run}
+use Rattle.java_tree.specs.Phrases.{Limit, Letter, ◌▸◌, letter, one, name}
+use Rattle.java_tree.specs.Expressions.{place}
+use Rattle.java_tree.specs.Statements.{is_target, stepped}
+use Rattle.reading_core.specs.Read.{Read, Got, Bad, at_side, ◌>>=◌}
 use Rattle.java_reading.specs.declared.form.Reached.{Reached}
-use Rattle.java_reading.specs.declared.form.Reached.TheVariants.{Bare, Place, Call}
+use Rattle.java_reading.specs.declared.form.Reached.TheVariants.{Place, Call}
 use Rattle.java_reading.specs.declared.form.Turn.{Turn}
 use Rattle.java_reading.specs.declared.form.Turn.TheVariants.{Assigns, Up, Down, Ends, Goes, Fails}
-use Rattle.java_reading.specs.declared.marks.Fixed.{Fixed}
-use Rattle.java_reading.specs.declared.marks.Fixed.TheVariants.{OpenParen, CloseParen, Semicolon, Comma, Assign, Dot}
-use Rattle.java_reading.specs.Readers.{Reader, head, give, first, second, and_then, opening, deeper_by, optional, repeat}
-use Rattle.java_reading.specs.Tokens.{is_fixed, terminal_of_fixed, stands, fixed, name_in, at_head, next_is}
-use Rattle.java_reading.specs.Expressions.{goes_on, extends}
+use Rattle.java_reading.specs.declared.marks.Fixed.TheVariants.{OpenParen, Semicolon, Dot}
+use Rattle.java_reading.specs.Readers.{Reader, head, give, and_then, deeper_by}
+use Rattle.java_reading.specs.Tokens.{is_fixed, stands, fixed, name_in, at_head, next_is}
 use Rattle.java_reading.specs.StatementReading.{turn_of, assigned_in, turn_in, reached_in, named_in, further_in}
-use Rattle.java_reading.proofs.Law.{Family, Extends, never, any, Sample, Exact, Law, IsGot, Begun, Allows, Frees, Stops}
-use Rattle.java_reading.proofs.Seq.{seq, seq_law, seq_sample}
-use Rattle.java_reading.proofs.Parts.{give_law, give_sample, same_law, same_sample, behind, behind_law, bind_law, recast_law, second_with, tails}
-use Rattle.java_reading.proofs.Levels.{Below, full, room, opened, opening_law, opened_sample, by_level}
-use Rattle.java_reading.proofs.TokenLaws.{fixed_is, fixed_law, fixed_sample, fixed_decided, name_law, name_sample, name_head, one_head, word_at, on_is, on_side}
-use Rattle.java_reading.proofs.Shapes.{then_it, it_then, then_fixed, fixed_then, fixed_then_sample, then_fixed_sample}
+use Rattle.java_reading.proofs.Law.{Family, never, any, Sample, Exact, Law}
+use Rattle.java_reading.proofs.Seq.{seq, seq_sample}
+use Rattle.java_reading.proofs.Parts.{give_law, give_sample, behind, behind_law, bind_law, recast_law, second_with, tails}
+use Rattle.java_reading.proofs.Levels.{Below, full, room, opened, by_level}
+use Rattle.java_reading.proofs.TokenLaws.{fixed_is, fixed_law, fixed_decided, name_law, name_sample, one_head, on_is}
+use Rattle.java_reading.proofs.Shapes.{then_it, then_fixed}
 use Rattle.java_reading.proofs.Starts.{arguments_start}
-use Rattle.java_reading.proofs.DeclarationLaws.{EF, EX, expression_sample, no_extension, next_at}
-
-use Rattle.java_reading.proofs.Tails.{from_level, level_law, ArgsF, Tail, sets, steps, runs, reads, calls, TailF, NamedF, one_tail, one_none, clash, TurnFact, turn_fact, Matches, matches_place, matches_run, matches_target, place_matches, call_matches, tail_sample, named_sample, TailHead, tail_head}
+use Rattle.java_reading.proofs.DeclarationLaws.{EF, EX, no_extension}
+use Rattle.java_reading.proofs.Tails.{from_level, level_law, ArgsF, Tail, sets, steps, runs, reads, calls, TailF, NamedF, one_tail, TurnFact, turn_fact, Matches, matches_place, matches_run, matches_target, place_matches, call_matches, tail_sample, named_sample, TailHead, tail_head}
 
 -- LAWS
 
@@ -39,7 +35,6 @@ module _ (expression : ℕ → Reader Expr) (arguments : ℕ → Reader Exprs)
     (arguments_law : (left l : ℕ) → l + left ≡ 64 → Exact Exprs ArgsF never any l (arguments left))
     (arguments_sample : (l : ℕ) → Sample Exprs ArgsF l)
     (base l0 : ℕ) (base_sum : l0 + base ≡ 64) where
-
   -- behind the first token of a tail
   module _ (r : Reached) (e : Expr) (matches : Matches r e) (l : ℕ) (further : Option (Expr → Reader Stmt)) (t : Token) (ts : List Token) where
     abbrev BF : Family Stmt
@@ -82,7 +77,6 @@ module _ (expression : ℕ → Reader Expr) (arguments : ℕ → Reader Exprs)
             back May s us k rest (runs is' h up) = let f : terminal.Increment ≡ terminal.Semicolon = sym is ∙ one_head false terminal.Semicolon l0 (t ∷ us) l0 rest h in cc
             back May s us k rest (reads i (m, mid, h, h') h2 h3 up) = let f : terminal.Increment ≡ terminal.Dot = sym is ∙ one_head false terminal.Dot l (t ∷ us) m mid h in cc
             back May s us k rest (calls i args (m, mid, h, h') h2 h3 h4 up) = let f : terminal.Increment ≡ terminal.Dot = sym is ∙ one_head false terminal.Dot l (t ∷ us) m mid h in cc
-    
         by false is = back
           where
             back : (May : Limit) (s : Stmt) (us : List Token) (k : ℕ) (rest : List Token) → Tail May l0 e s l (t ∷ us) k rest → (x : Unit {0}) × (s ≡ step e false) × from_level l0 (λ May u. one (false, terminal.Semicolon)) May x l us k rest
@@ -92,7 +86,6 @@ module _ (expression : ℕ → Reader Expr) (arguments : ℕ → Reader Exprs)
             back May s us k rest (runs is' h up) = let f : terminal.Decrement ≡ terminal.Semicolon = sym is ∙ one_head false terminal.Semicolon l0 (t ∷ us) l0 rest h in cc
             back May s us k rest (reads i (m, mid, h, h') h2 h3 up) = let f : terminal.Decrement ≡ terminal.Dot = sym is ∙ one_head false terminal.Dot l (t ∷ us) m mid h in cc
             back May s us k rest (calls i args (m, mid, h, h') h2 h3 h4 up) = let f : terminal.Decrement ≡ terminal.Dot = sym is ∙ one_head false terminal.Dot l (t ∷ us) m mid h in cc
-    
 
     -- the `;` behind a call
     ends_law : at_side false t ≡ terminal.Semicolon → r ≡ Call → Law Stmt BF never any l ts (Got (run e) ts)
@@ -205,7 +198,6 @@ module _ (expression : ℕ → Reader Expr) (arguments : ℕ → Reader Exprs)
 
   module _ (left l : ℕ) (sum : l + left ≡ 64) (further : Option (Expr → Reader Stmt)) (reached : (r : Reached) (e : Expr) → Matches r e → Exact Stmt (TailF l0 e) never any l (reached_in expression arguments base further r e))
       (plain : Expr) (with_ : Exprs → Expr) (plain_is : Matches Place plain) (with_is : (es : Exprs) → Matches Call (with_ es)) where
-
     named_by : (ts : List Token) (b : Bool) → next_is false OpenParen (head ts) ≡ b → Law Stmt (NamedF l0 plain with_) never any l ts
         (elim b [ true ↦ arguments left ts >>= (λ es rest. reached_in expression arguments base further Call (with_ es) rest) | false ↦ reached_in expression arguments base further Place plain ts ])
     named_by ts true is =

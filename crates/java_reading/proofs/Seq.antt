@@ -1,11 +1,10 @@
 -- One part and then another.
-use Rattle.std.proofs.Common.{◌≡◌, ◌⊎◌, ℕ, ◌≤◌, ◌<◌, List, [], ◌∷◌, ◌++◌, length, Option, Some, None, refl, sym, ap, subst, ◌∙◌, inl, inr, arith, append_assoc, length-append}
+use Rattle.std.proofs.Common.{◌≡◌, ◌⊎◌, ℕ, ◌<◌, List, [], ◌∷◌, ◌++◌, length, refl, sym, ap, subst, ◌∙◌, inl, inr, arith, append_assoc, length-append}
 use Rattle.java_lex.specs.declared.token.Token.{Token}
-use Rattle.java_tree.specs.Phrases.{Phrase, Limit, ◌▸◌, nothing, opens, closed}
-use Rattle.java_tree.specs.Reading.{within_before}
-use Rattle.reading_core.specs.Read.{Read, Got, Bad, Deep, ◌>>=◌}
-use Rattle.java_reading.specs.Readers.{Reader, head, give, with_first, and_then, taken, deeper_by, opening, repeat_by, repeat, optional}
-use Rattle.java_reading.proofs.Law.{Family, Extends, Allows, Frees, Stops, Sample, IsGot, IsBad, IsDeep, Begun, Law, plain_append}
+use Rattle.java_tree.specs.Phrases.{Limit, ◌▸◌}
+use Rattle.reading_core.specs.Read.{Read, Got, Bad, Deep}
+use Rattle.java_reading.specs.Readers.{head, with_first, and_then}
+use Rattle.java_reading.proofs.Law.{Family, Extends, Allows, Frees, Sample, IsGot, Begun, Law, plain_append}
 
 pub head_append : (f r c : List Token) → head r ≡ head c → head (f ++ r) ≡ head (f ++ c)
 head_append [] r c h = h
@@ -25,7 +24,6 @@ module _ (A B : Type 0) (p : Family A) (X S : Extends A) (q : A → Family B) (Y
     (sample : (a : A) (l : ℕ) → Sample B (q a) l)
     (apart : (a : A) (May : Limit) (b : B) (l : ℕ) (us : List Token) (k : ℕ) (r : List Token) → q a May b l us k r → X a (head us) → Y a b (head r))
     (l : ℕ) where
-
   abbrev Z : Extends (A × B)
   Z ab h = Y ab.0 ab.1 h
 
@@ -37,7 +35,7 @@ module _ (A B : Type 0) (p : Family A) (X S : Extends A) (q : A → Family B) (Y
       → (ab : A × B) (k : ℕ) (r : List Token) → seq p q May ab l (got.front ++ c) k r → ((ab.0 ≡ a) × q a May ab.1 l c k r) ⊎ Z ab (head r)
   only_first ts a mid got May c h ab k r (m, us, first, second) =
       elim (got.only May c h ab.0 m us first) [
-        inl e ↦ inl (e.0, subst (λ (x : A). q x May ab.1 l c k r) e.0 (subst (λ (v : List Token). q ab.0 May ab.1 l v k r) e.2 (subst (λ (n : ℕ). q ab.0 May ab.1 n us k r) e.1 second)))
+        | inl e ↦ inl (e.0, subst (λ (x : A). q x May ab.1 l c k r) e.0 (subst (λ (v : List Token). q ab.0 May ab.1 l v k r) e.2 (subst (λ (n : ℕ). q ab.0 May ab.1 n us k r) e.1 second)))
         | inr x ↦ inr (apart ab.0 May ab.1 m us k r second x)
       ]
 
@@ -70,7 +68,7 @@ module _ (A B : Type 0) (p : Family A) (X S : Extends A) (q : A → Family B) (Y
     sound = λ May allows c. subst (λ (v : List Token). seq p q May (a, b) l v l c) (sym (append_assoc got.front law.front c)) (l, law.front ++ c, got.sound May allows (law.front ++ c), law.sound May allows c);
     stop = law.stop;
     only = λ May c h ab k r parse. elim (only_both ts a mid got law.front rest law.parts May c h ab k r parse) [
-      inl e ↦ elim (law.only May c h ab.1 k r e.1) [ inl e' ↦ inl (pair_is ab a b e.0 e'.0, e'.1, e'.2) | inr x ↦ inr (subst (λ (z : A). Y z ab.1 (head r)) (sym e.0) x) ]
+      | inl e ↦ elim (law.only May c h ab.1 k r e.1) [ inl e' ↦ inl (pair_is ab a b e.0 e'.0, e'.1, e'.2) | inr x ↦ inr (subst (λ (z : A). Y z ab.1 (head r)) (sym e.0) x) ]
       | inr x ↦ inr x
     ];
   }
@@ -80,7 +78,7 @@ module _ (A B : Type 0) (p : Family A) (X S : Extends A) (q : A → Family B) (Y
     plain = plain_append got.front law.front got.plain law.plain;
     before = begun_both ts a mid got law.front law.before;
     only = λ May c h ab k r parse. elim (only_both ts a mid got law.front rest law.parts May c h ab k r parse) [
-      inl e ↦ subst (λ (z : A). Y z ab.1 (head r)) (sym e.0) (law.only May c h ab.1 k r e.1)
+      | inl e ↦ subst (λ (z : A). Y z ab.1 (head r)) (sym e.0) (law.only May c h ab.1 k r e.1)
       | inr x ↦ x
     ];
   }
@@ -93,7 +91,7 @@ module _ (A B : Type 0) (p : Family A) (X S : Extends A) (q : A → Family B) (Y
     plain = plain_append got.front law.front got.plain law.plain;
     before = begun_both ts a mid got law.front law.before;
     only = λ May c stops ab k r parse. elim (only_both ts a mid got law.front rest law.parts May (law.at ∷ c) (ap head law.here) ab k r parse) [
-      inl e ↦ subst (λ (z : A). Y z ab.1 (head r)) (sym e.0) (law.only May c stops ab.1 k r e.1)
+      | inl e ↦ subst (λ (z : A). Y z ab.1 (head r)) (sym e.0) (law.only May c stops ab.1 k r e.1)
       | inr x ↦ x
     ];
     more = law.more;

@@ -1,16 +1,14 @@
 -- A part between tokens that stand at one place alone.
-use Rattle.std.proofs.Common.{◌≡◌, ℕ, Bool, true, false, List, [], ◌∷◌, Option, Some, None, refl, sym, ap, ◌∙◌, subst}
-use Rattle.java_lex.specs.declared.spelling.Terminal.{Terminal}
+use Rattle.std.proofs.Common.{◌≡◌, ℕ, Bool, true, Option}
 use Rattle.java_lex.specs.declared.spelling.Terminal.TheVariants as terminal
 use Rattle.java_lex.specs.declared.token.Token.{Token}
-use Rattle.java_tree.specs.Phrases.{Limit, one, one_at}
-use Rattle.reading_core.specs.Read.{Read}
+use Rattle.java_tree.specs.Phrases.{one}
 use Rattle.java_reading.specs.declared.marks.Fixed.{Fixed}
-use Rattle.java_reading.specs.Readers.{Reader, head, give, first, second, and_then}
-use Rattle.java_reading.specs.Tokens.{terminal_of_fixed, fixed, fixed_at, at_head}
-use Rattle.java_reading.proofs.Law.{Family, Extends, never, any, Sample, Exact, Law, IsGot}
+use Rattle.java_reading.specs.Readers.{Reader, head, and_then}
+use Rattle.java_reading.specs.Tokens.{terminal_of_fixed, fixed, at_head}
+use Rattle.java_reading.proofs.Law.{Family, Extends, never, any, Sample, Exact}
 use Rattle.java_reading.proofs.Seq.{seq, seq_law, seq_sample}
-use Rattle.java_reading.proofs.TokenLaws.{on_its_side, fixed_law, fixed_sample, fixed_at_law, fixed_at_sample, one_head}
+use Rattle.java_reading.proofs.TokenLaws.{on_its_side, fixed_law, fixed_sample, one_head}
 
 module _ (side : Bool) (x : Fixed) (own : on_its_side side x ≡ true) (plain : terminal_of_fixed x ≡ terminal.End → ⊥) where
   abbrev pub then_it : {A : Type 0} → Family A → Family (A × Unit {0})

@@ -1,13 +1,11 @@
 -- With what an expression begins.
-use Rattle.std.proofs.Common.{◌≡◌, ◌⊎◌, ℕ, Bool, true, false, List, [], ◌∷◌, Option, Some, None, refl, sym, ap, ◌∙◌, subst, inl, inr, IsTrue}
+use Rattle.std.proofs.Common.{◌≡◌, ℕ, Bool, true, false, List, refl, sym, ap, ◌∙◌, subst}
 use Rattle.java_lex.specs.declared.spelling.Terminal.{Terminal}
 use Rattle.java_lex.specs.declared.spelling.Terminal.TheVariants as terminal
 use Rattle.java_lex.specs.declared.token.Token.{Token}
-use Rattle.java_tree.specs.declared.expressions.Sign.{Sign}
 use Rattle.java_tree.specs.Trees.{Expr, num, flag, null, this, outcome, make, named, call, read, call_on, paren, negation, minus, bin, old, quant, quant_in, has, size, Exprs, none, also}
-use Rattle.java_tree.specs.Phrases.{Phrase, Limit, ◌▸◌, letter, one, one_at, name, closed}
+use Rattle.java_tree.specs.Phrases.{Phrase, Limit, ◌▸◌, letter, one_at, closed}
 use Rattle.java_tree.specs.Expressions.{phrase, chained, is_steps, is_chain, left_tier, post, expression, predicate, arguments}
-use Rattle.reading_core.specs.Read.{at_side}
 use Rattle.java_reading.specs.Readers.{head}
 use Rattle.java_reading.specs.Tokens.{at_head}
 use Rattle.java_reading.specs.Expressions.{starts}

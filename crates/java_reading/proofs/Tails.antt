@@ -1,34 +1,28 @@
 -- What follows an expression that a statement begins with: each `.` opens a level up to the statement's end.
-use Rattle.std.proofs.Common.{◌≡◌, ◌⊎◌, ℕ, zero, suc, ◌+◌, ◌≤◌, Bool, true, false, List, [], ◌∷◌, ◌++◌, Option, Some, None, refl, sym, ap, ◌∙◌, subst, inl, inr, codes, arith, IsTrue}
+use Rattle.std.proofs.Common.{◌≡◌, ◌⊎◌, ℕ, suc, Bool, true, false, List, [], ◌∷◌, ◌++◌, refl, sym, ◌∙◌, subst, inl, inr, codes, arith}
 use Rattle.java_lex.specs.declared.spelling.Terminal.{Terminal}
 use Rattle.java_lex.specs.declared.spelling.Terminal.TheVariants as terminal
 use Rattle.java_lex.specs.declared.token.Token.{Token}
 use Rattle.java_lex.specs.declared.token.TokenKind.TheVariants as kind
-use Rattle.java_lex.specs.Terminals.{terminal_of}
 use Rattle.java_tree.specs.declared.names.Ident.{Ident}
-use Rattle.java_tree.specs.Trees.{Expr, num, flag, null, this, outcome, make, named, call, read, call_on, paren, negation, minus, bin, old, quant, quant_in, has, size, Exprs, none, also, Decl, Stmt, block, blank, if_only, if_else, loops, gives_back, local, set, step, run, Stmts, done, next}
-use Rattle.java_tree.specs.Phrases.{Limit, Letter, Phrase, ◌▸◌, letter, ident_of, one, one_at, name, closed, opens, where_}
-use Rattle.java_tree.specs.Expressions.{phrase, expression, arguments, chained, is_steps, post, or, place}
-use Rattle.java_tree.specs.Statements.{is_target, is_place, is_run, stepped, statement}
-use Rattle.reading_core.specs.Read.{Read, Got, Bad, Deep, at_side, ◌>>=◌}
+use Rattle.java_tree.specs.Trees.{Expr, read, call_on, Exprs, Stmt, set, step, run}
+use Rattle.java_tree.specs.Phrases.{Limit, Phrase, ◌▸◌, letter, ident_of, one, name, opens}
+use Rattle.java_tree.specs.Expressions.{expression, arguments, place}
+use Rattle.java_tree.specs.Statements.{is_target, is_place, is_run, stepped}
+use Rattle.reading_core.specs.Read.{Read, Got, Bad, Deep, at_side}
 use Rattle.java_reading.specs.declared.form.Reached.{Reached}
 use Rattle.java_reading.specs.declared.form.Reached.TheVariants.{Bare, Place, Call}
 use Rattle.java_reading.specs.declared.form.Turn.{Turn}
 use Rattle.java_reading.specs.declared.form.Turn.TheVariants.{Assigns, Up, Down, Ends, Goes, Fails}
-use Rattle.java_reading.specs.declared.marks.Fixed.{Fixed}
-use Rattle.java_reading.specs.declared.marks.Fixed.TheVariants.{OpenParen, CloseParen, Semicolon, Comma, Assign, Dot}
-use Rattle.java_reading.specs.Readers.{Reader, head, give, first, second, and_then, opening, deeper_by, optional, repeat}
-use Rattle.java_reading.specs.Tokens.{is_fixed, terminal_of_fixed, fixed, name_in, at_head, next_is}
-use Rattle.java_reading.specs.Expressions.{goes_on, extends}
-use Rattle.java_reading.specs.StatementReading.{turn_of, assigned_in, turn_in, reached_in, named_in, further_in}
-use Rattle.java_reading.proofs.Law.{Family, Extends, never, any, Sample, Exact, Law, IsGot, Begun, Allows, Frees, Stops}
-use Rattle.java_reading.proofs.Seq.{seq, seq_law, seq_sample}
-use Rattle.java_reading.proofs.Parts.{give_law, give_sample, same_law, same_sample, behind, behind_law}
-use Rattle.java_reading.proofs.Levels.{Below, full, room, opened, opening_law, opened_sample}
-use Rattle.java_reading.proofs.TokenLaws.{fixed_is, fixed_law, fixed_sample, fixed_decided, name_law, name_sample, name_head, one_head, word_at, on_is, on_side}
-use Rattle.java_reading.proofs.Shapes.{then_it, it_then, then_fixed, fixed_then, fixed_then_sample, then_fixed_sample}
-use Rattle.java_reading.proofs.Starts.{arguments_start}
-use Rattle.java_reading.proofs.DeclarationLaws.{EF, EX, expression_sample, no_extension, next_at}
+use Rattle.java_reading.specs.declared.marks.Fixed.TheVariants.{Semicolon, Assign}
+use Rattle.java_reading.specs.Readers.{head}
+use Rattle.java_reading.specs.Tokens.{at_head}
+use Rattle.java_reading.specs.StatementReading.{turn_of}
+use Rattle.java_reading.proofs.Law.{Family, Extends, Sample, Law}
+use Rattle.java_reading.proofs.Parts.{give_sample}
+use Rattle.java_reading.proofs.TokenLaws.{one_head, word_at, on_side}
+use Rattle.java_reading.proofs.Shapes.{then_it, it_then, fixed_then_sample, then_fixed_sample}
+use Rattle.java_reading.proofs.DeclarationLaws.{EF, expression_sample}
 
 -- THE SAME PHRASE FROM ANOTHER LEVEL
 
@@ -186,4 +180,3 @@ tail_head May l0 e s l us k r (steps false is (m, mid, h, h') up) = inr (inr (in
 tail_head May l0 e s l us k r (runs is h up) = inr (inr (inr (inl (one_head false terminal.Semicolon l0 us l0 r h, is))))
 tail_head May l0 e s l us k r (reads i (m, mid, h, h') h2 h3 up) = inr (inr (inr (inr (one_head false terminal.Dot l us m mid h))))
 tail_head May l0 e s l us k r (calls i args (m, mid, h, h') h2 h3 h4 up) = inr (inr (inr (inr (one_head false terminal.Dot l us m mid h))))
-

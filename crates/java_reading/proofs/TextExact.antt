@@ -1,20 +1,19 @@
 -- What reading a whole text tells: its one tree, or the first token at fault, for what it is or for its level alone.
-use Rattle.std.proofs.Common.{◌≡◌, ◌⊎◌, ℕ, zero, suc, ◌+◌, ◌≤◌, ◌<◌, Bool, true, false, ◌||◌, List, [], ◌∷◌, ◌++◌, length, Option, Some, None, refl, sym, ap, ◌∙◌, subst, inl, inr, codes, arith, append_assoc, append-nil, length-append}
-use Rattle.java_lex.specs.declared.spelling.Terminal.{Terminal}
+use Rattle.std.proofs.Common.{◌≡◌, ℕ, ◌+◌, Bool, true, false, List, [], ◌∷◌, ◌++◌, length, Option, refl, sym, ap, ◌∙◌, subst, inl, inr, arith, append_assoc}
 use Rattle.java_lex.specs.declared.spelling.Terminal.TheVariants as terminal
 use Rattle.java_lex.specs.declared.token.Token.{Token}
 use Rattle.java_lex.specs.Terminals.{terminal_of}
-use Rattle.java_tree.specs.Trees.{Expr, Exprs, Class, Classes}
-use Rattle.java_tree.specs.Phrases.{Limit, Letter, Phrase, ◌▸◌, letter, java, one}
+use Rattle.java_tree.specs.Trees.{Expr, Exprs, Classes}
+use Rattle.java_tree.specs.Phrases.{Limit, Letter, letter}
 use Rattle.java_tree.specs.Members.{text, unit}
-use Rattle.java_tree.specs.Reading.{some_text, Parses, Parse, within, any_level, within_before, Begins, BeginsWithin, FirstFault, FirstWrong, FirstDeep}
-use Rattle.reading_core.specs.Read.{Read, Got, Bad, Deep, ◌>>=◌, at_side}
+use Rattle.java_tree.specs.Reading.{some_text, Parse, within, any_level, within_before, BeginsWithin, FirstWrong, FirstDeep}
+use Rattle.reading_core.specs.Read.{Read, Got, Bad, Deep}
 use Rattle.java_reading.specs.declared.marks.Fixed.TheVariants.{End}
-use Rattle.java_reading.specs.Readers.{Reader, head, give, first, and_then}
+use Rattle.java_reading.specs.Readers.{Reader, head, first, and_then}
 use Rattle.java_reading.specs.Tokens.{is_fixed, stands, fixed, at_head}
 use Rattle.java_reading.specs.MemberReading.{unit_in, text_in}
-use Rattle.java_reading.proofs.Law.{Family, Extends, never, any, Sample, Exact, Law, IsGot, IsBad, IsDeep, Plain, Stops, Allows}
-use Rattle.java_reading.proofs.TokenLaws.{example, example_is, stands_letter, letter_stands, one_head, on_side}
+use Rattle.java_reading.proofs.Law.{never, any, Sample, Exact, Law, IsGot, Plain, Stops, Allows}
+use Rattle.java_reading.proofs.TokenLaws.{example, stands_letter, one_head}
 use Rattle.java_reading.proofs.DeclarationLaws.{EF, EX}
 use Rattle.java_reading.proofs.Tails.{ArgsF}
 use Rattle.java_reading.proofs.PartLaws.{PF, PX}
@@ -100,7 +99,6 @@ module _ (expression : ℕ → Reader Expr) (arguments : ℕ → Reader Exprs) (
     (expression_law : (left l : ℕ) → l + left ≡ 64 → Exact Expr EF EX any l (expression left))
     (arguments_law : (left l : ℕ) → l + left ≡ 64 → Exact Exprs ArgsF never any l (arguments left)) (arguments_sample : (l : ℕ) → Sample Exprs ArgsF l)
     (predicate_law : (left l : ℕ) → l + left ≡ 64 → Exact Expr PF PX any l (predicate_in left)) (predicate_sample : (l : ℕ) → Sample Expr PF l) where
-
   abbrev units : Reader Classes
   units = unit_in expression arguments predicate_in 64
 
@@ -114,11 +112,13 @@ module _ (expression : ℕ → Reader Expr) (arguments : ℕ → Reader Exprs) (
       → Tells ts (first (and_then (Got cs (t ∷ more)) (λ c rest. elim b [ true ↦ Got (tt {0}) more | false ↦ Bad (t ∷ more) ])))
   end_by ts ended cs t more got true is =
       let t_is : letter t ≡ (false, terminal.End) = stands_letter false End t is in
-      let none : more ≡ [] = last_end ended.front ended.at got.front t more t_is ended.plain (sym ended.parts ∙ got.parts) in
-      (none, record {
-        levels = 0;
-        parse = subst (λ (v : List Token). text within cs 0 v 0 []) (sym (got.parts ∙ ap (λ v. got.front ++ t ∷ v) none)) (0, t ∷ [], got.sound within within_allows (t ∷ []), (t, t_is, refl, refl));
-      })
+      let none : more ≡ [] = last_end ended.front ended.at got.front t more t_is ended.plain (sym ended.parts ∙ got.parts) in (
+        none,
+        record {
+          levels = 0;
+          parse = subst (λ (v : List Token). text within cs 0 v 0 []) (sym (got.parts ∙ ap (λ v. got.front ++ t ∷ v) none)) (0, t ∷ [], got.sound within within_allows (t ∷ []), (t, t_is, refl, refl));
+        },
+      )
     where
       within_allows : Allows 0 within
       within_allows k r (inl h) = h
@@ -135,7 +135,7 @@ module _ (expression : ℕ → Reader Expr) (arguments : ℕ → Reader Exprs) (
         where
           by : (m : ℕ) × (mid : List Token) × unit May cs' 0 (got.front ++ t ∷ more') m mid × (at_head false (head mid) ≡ terminal.End) × (length mid ≡ 1) → ⊥
           by (m, mid, u, at_end, one_is) = elim (got.only May (t ∷ more') refl cs' m mid u) [
-            inl e ↦ (let f : stands false End t ≡ true = ap (is_fixed End) (sym (ap (λ v. at_head false (head v)) e.2) ∙ at_end) in let g : true ≡ false = sym f ∙ is in cc)
+            | inl e ↦ (let f : stands false End t ≡ true = ap (is_fixed End) (sym (ap (λ v. at_head false (head v)) e.2) ∙ at_end) in let g : true ≡ false = sym f ∙ is in cc)
             | inr x ↦ no_longer cs' (head mid) x at_end
           ]
 
@@ -189,7 +189,7 @@ module _ (expression : ℕ → Reader Expr) (arguments : ℕ → Reader Exprs) (
     where
       by : (m : ℕ) × (mid : List Token) × unit within cs 0 ts m mid × (at_head false (head mid) ≡ terminal.End) × (length mid ≡ 1) → first (and_then (Got cs0 rest) (λ cs. fixed false End)) ≡ Got cs []
       by (m, mid, u, at_end, one_is) = elim (got.only within rest refl cs m mid (subst (λ (v : List Token). unit within cs 0 v m mid) got.parts u)) [
-        inl e ↦ ending rest (ap (λ v. at_head false (head v)) (sym e.2) ∙ at_end) (ap length (sym e.2) ∙ one_is) ∙ ap (λ c. Got c []) (sym e.0)
+        | inl e ↦ ending rest (ap (λ v. at_head false (head v)) (sym e.2) ∙ at_end) (ap length (sym e.2) ∙ one_is) ∙ ap (λ c. Got c []) (sym e.0)
         | inr x ↦ absurd (no_longer cs (head mid) x at_end)
       ]
         where

@@ -1,29 +1,26 @@
 -- The laws of classes and texts.
-use Rattle.std.proofs.Common.{◌≡◌, ◌⊎◌, ℕ, zero, suc, ◌+◌, ◌≤◌, ◌<◌, Bool, true, false, ◌&&◌, ◌||◌, List, [], ◌∷◌, ◌++◌, length, Option, Some, None, refl, sym, ap, ◌∙◌, subst, inl, inr, codes, arith}
+use Rattle.std.proofs.Common.{◌≡◌, ◌⊎◌, ℕ, zero, suc, ◌+◌, Bool, true, false, ◌||◌, List, [], ◌∷◌, ◌++◌, Option, Some, None, refl, sym, ap, ◌∙◌, subst, inl, inr}
 use Rattle.std.specs.List.{list_all, flat_map}
 use Rattle.java_lex.specs.declared.spelling.Terminal.{Terminal}
 use Rattle.java_lex.specs.declared.spelling.Terminal.TheVariants as terminal
 use Rattle.java_lex.specs.declared.token.Token.{Token}
-use Rattle.java_lex.specs.Terminals.{terminal_of}
 use Rattle.java_tree.specs.declared.names.Ident.{Ident}
 use Rattle.java_tree.specs.declared.names.Modifier.{Modifier}
 use Rattle.java_tree.specs.Trees.{Expr, Exprs, Class, Classes}
-use Rattle.java_tree.specs.Phrases.{Limit, Letter, Phrase, ◌▸◌, letter, one, name, nothing, where_, maybe, many, times}
-use Rattle.java_tree.specs.Statements.{modifiers}
-use Rattle.java_tree.specs.Members.{is_class_modifier, package_line, import_line, Written, parts_of, members, class_body, class, classes, unit}
-use Rattle.reading_core.specs.Read.{Read, Got, Bad, Deep, ◌>>=◌, at_side}
-use Rattle.java_reading.specs.declared.marks.Fixed.{Fixed}
+use Rattle.java_tree.specs.Phrases.{Limit, Letter, ◌▸◌, letter, name, nothing, where_, many, times}
+use Rattle.java_tree.specs.Members.{is_class_modifier, import_line, Written, parts_of, members, class, classes, unit}
+use Rattle.reading_core.specs.Read.{◌>>=◌, at_side}
 use Rattle.java_reading.specs.declared.marks.Fixed.TheVariants.{OpenBrace, CloseBrace, Class as ClassWord, Package, Import}
-use Rattle.java_reading.specs.Readers.{Reader, head, give, first, second, and_then, optional, repeat}
-use Rattle.java_reading.specs.Tokens.{is_fixed, terminal_of_fixed, stands, fixed, name_in, at_head, next_is}
-use Rattle.java_reading.specs.PartForms.{part_form_of, is_part, head_part, begins_part}
+use Rattle.java_reading.specs.Readers.{Reader, head, and_then, optional, repeat}
+use Rattle.java_reading.specs.Tokens.{is_fixed, stands, fixed, name_in, at_head, next_is}
+use Rattle.java_reading.specs.PartForms.{part_form_of, is_part, begins_part}
 use Rattle.java_reading.specs.StatementReading.{modifiers_in}
 use Rattle.java_reading.specs.MemberReading.{package_in, import_in, member_in, members_in, class_in, begins_class, classes_in, unit_in}
-use Rattle.java_reading.proofs.Law.{Family, Extends, never, any, Sample, Exact, Law, IsGot}
+use Rattle.java_reading.proofs.Law.{Family, Extends, never, any, Sample, Exact}
 use Rattle.java_reading.proofs.Seq.{seq, seq_law, seq_sample}
-use Rattle.java_reading.proofs.Parts.{give_law, give_sample, same_law, same_sample, bind_law}
-use Rattle.java_reading.proofs.Many.{each, many_law, optional_of, optional_law, optional_sample, May_be}
-use Rattle.java_reading.proofs.TokenLaws.{fixed_is, fixed_law, fixed_sample, name_law, name_sample, one_head, on_is, on_side}
+use Rattle.java_reading.proofs.Parts.{give_law, give_sample, same_law, bind_law}
+use Rattle.java_reading.proofs.Many.{each, many_law, optional_of, optional_law, May_be}
+use Rattle.java_reading.proofs.TokenLaws.{name_law, name_sample, one_head, on_is}
 use Rattle.java_reading.proofs.Shapes.{then_it, it_then, then_fixed, fixed_then, fixed_then_sample, then_fixed_sample}
 use Rattle.java_reading.proofs.ModifierLaws.{MF, MX, allowed_head, modifiers_law, modifiers_sample}
 use Rattle.java_reading.proofs.DeclarationLaws.{EF, EX, next_at}
@@ -31,7 +28,7 @@ use Rattle.java_reading.proofs.Tails.{ArgsF}
 use Rattle.java_reading.proofs.Beginnings.{and_left}
 use Rattle.java_reading.proofs.PartLaws.{PF, PX}
 use Rattle.java_reading.proofs.Imports.{PackageF, package_law, package_first, ImportF, import_law, import_first}
-use Rattle.java_reading.proofs.MemberLaws.{MemF}
+use Rattle.java_reading.proofs.MemberForms.{MemF}
 use Rattle.java_reading.proofs.MemberLaw.{member_first, member_law}
 
 class_plain : (z : Letter) → is_class_modifier z ≡ true → z.1 ≡ terminal.End → ⊥
@@ -204,7 +201,6 @@ module _ (expression : ℕ → Reader Expr) (arguments : ℕ → Reader Exprs) (
     (arguments_law : (left l : ℕ) → l + left ≡ 64 → Exact Exprs ArgsF never any l (arguments left)) (arguments_sample : (l : ℕ) → Sample Exprs ArgsF l)
     (predicate_law : (left l : ℕ) → l + left ≡ 64 → Exact Expr PF PX any l (predicate_in left)) (predicate_sample : (l : ℕ) → Sample Expr PF l)
     (left l : ℕ) (sum : l + left ≡ 64) where
-
   members_law : Exact (List Written) MembersF MembersX any l (members_in expression arguments predicate_in left)
   members_law =
       many_law Written MemF never any begins_part (λ h. ⊥) member_first (λ w h none. none) (λ h none e. none) refl l (member_in expression arguments predicate_in left)

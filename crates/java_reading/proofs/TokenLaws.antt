@@ -1,20 +1,19 @@
 -- Laws of tokens that stand at one place alone, and of names.
-use Rattle.std.proofs.Common.{◌≡◌, ℕ, Bool, true, false, List, [], ◌∷◌, Option, Some, None, refl, sym, ap, ◌∙◌, codes, subst}
+use Rattle.std.proofs.Common.{◌≡◌, ℕ, Bool, true, false, List, refl, sym, ap, ◌∙◌, codes}
 use Rattle.java_lex.specs.declared.spelling.Terminal.{Terminal}
 use Rattle.java_lex.specs.declared.spelling.Terminal.TheVariants as terminal
 use Rattle.java_lex.specs.declared.token.Token.{Token}
-use Rattle.java_lex.specs.declared.token.TokenKind.{TokenKind}
 use Rattle.java_lex.specs.declared.token.TokenKind.TheVariants as kind
 use Rattle.java_lex.specs.Terminals.{terminal_of}
 use Rattle.java_tree.specs.declared.names.Ident.{Ident}
-use Rattle.java_tree.specs.Phrases.{Letter, letter, ident_of, Limit, one, one_at, name}
+use Rattle.java_tree.specs.Phrases.{Letter, letter, ident_of, one, one_at, name}
 use Rattle.reading_core.specs.Read.{on, at_side}
 use Rattle.java_reading.specs.declared.marks.Fixed.{Fixed}
 use Rattle.java_reading.specs.declared.marks.Fixed.TheVariants.{OpenBrace, CloseBrace, OpenParen, CloseParen, Semicolon, Comma, Dot, Assign, If, Else, While, Return, Class, Package, Import, Static, Times, Requires, Ensures, Invariant, NormalBehavior, End}
 use Rattle.java_reading.specs.Readers.{head}
-use Rattle.java_reading.specs.Tokens.{is_fixed, terminal_of_fixed, stands, is_name, fixed, fixed_at, name_in, at_head, next_is, next_is_name}
-use Rattle.java_reading.proofs.Law.{Family, never, any, Sample, Exact}
-use Rattle.java_reading.proofs.Parts.{Decided, token_by, token_law, token_sample}
+use Rattle.java_reading.specs.Tokens.{is_fixed, terminal_of_fixed, stands, is_name, fixed, fixed_at, name_in, at_head}
+use Rattle.java_reading.proofs.Law.{never, any, Sample, Exact}
+use Rattle.java_reading.proofs.Parts.{Decided, token_law, token_sample}
 
 pub fixed_is : (x : Fixed) (y : Terminal) → is_fixed x y ≡ true → y ≡ terminal_of_fixed x
 fixed_is OpenBrace terminal.OpenBrace e = refl

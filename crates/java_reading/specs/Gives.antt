@@ -1,10 +1,8 @@
 -- What the code answers, by the definition of reading.
-use Rattle.std.specs.Prelude.{◌≡◌, ◌<◌, List, length, Result, Ok, Err}
-use Rattle.std.specs.Borrow.{Bor}
-use Rattle.java_lex.specs.declared.token.Token.{Token}
+use Rattle.std.specs.Prelude.{◌≡◌}
 use Rattle.reading_core.specs.declared.stop.Stop.{Stop}
 use Rattle.reading_core.specs.declared.stop.Stop.TheVariants.{Memory, Wrong, Deep as DeepStop}
-use Rattle.reading_core.specs.Read.{Read, Got, Bad, Deep}
+use Rattle.reading_core.specs.Read.{Read, Bad, Deep}
 
 -- the fault is the one of the reading; only want of memory is free
 abbrev pub Blames : {A : Type 0} → Stop → Read A → Type 0

@@ -1,5 +1,5 @@
 -- Reading members, classes and texts.
-use Rattle.std.specs.Prelude.{ℕ, zero, suc, Bool, true, false, ◌||◌, not, List, [], ◌∷◌, ◌++◌, length, Option, Some, None}
+use Rattle.std.specs.Prelude.{ℕ, zero, suc, Bool, true, false, ◌||◌, not, List, [], ◌∷◌, length, Option, Some, None}
 use Rattle.std.specs.List.{flat_map, list_any}
 use Rattle.java_lex.specs.declared.spelling.Terminal.{Terminal}
 use Rattle.java_lex.specs.declared.spelling.Terminal.TheVariants as terminal
@@ -9,15 +9,14 @@ use Rattle.java_tree.specs.declared.names.ModWord.{ModWord}
 use Rattle.java_tree.specs.declared.names.ModWord.TheVariants.{Static as StaticWord, Nullable, NonNull, NullableByDefault, NonNullByDefault}
 use Rattle.java_tree.specs.declared.names.Modifier.{Modifier}
 use Rattle.java_tree.specs.declared.names.TypeTree.{TypeTree}
-use Rattle.java_tree.specs.Trees.{Expr, Exprs, Stmt, Clause, needs, gives, Param, Method, Part, invariant, field, method, Class, Classes}
-use Rattle.java_tree.specs.Phrases.{Letter, letter, ident_of}
+use Rattle.java_tree.specs.Trees.{Expr, Exprs, Stmt, Clause, needs, gives, Param, invariant, method, Class, Classes}
+use Rattle.java_tree.specs.Phrases.{letter}
 use Rattle.java_tree.specs.Statements.{is_local_modifier}
 use Rattle.java_tree.specs.Members.{is_class_modifier, is_method_modifier, Written, empty, one_part, fields, parts_of}
-use Rattle.reading_core.specs.Read.{Read, Got, Bad, Deep, ◌>>=◌, at_side}
-use Rattle.java_reading.specs.declared.marks.Fixed.{Fixed}
-use Rattle.java_reading.specs.declared.marks.Fixed.TheVariants.{OpenBrace, CloseBrace, OpenParen, CloseParen, Semicolon, Comma, Dot, Class as ClassWord, Package, Import, Static, Times, Requires, Ensures, Invariant, NormalBehavior, End}
+use Rattle.reading_core.specs.Read.{Read, Got, Bad, ◌>>=◌, at_side}
+use Rattle.java_reading.specs.declared.marks.Fixed.TheVariants.{OpenBrace, CloseBrace, OpenParen, CloseParen, Semicolon, Comma, Dot, Class as ClassWord, Package, Import, Static, Times, Invariant, NormalBehavior, End}
 use Rattle.java_reading.specs.Readers.{Reader, head, give, first, second, and_then, taken, repeat, optional}
-use Rattle.java_reading.specs.Tokens.{is_name, stands, fixed, fixed_at, name_in, next_is, next_is_name, at_head}
+use Rattle.java_reading.specs.Tokens.{stands, fixed, fixed_at, name_in, next_is, at_head}
 use Rattle.java_reading.specs.StatementReading.{modifiers_in, is_type, type_by, type_in, statements_in, stmts_of}
 use Rattle.java_reading.specs.declared.part_form.PartForm.{PartForm}
 use Rattle.java_reading.specs.declared.part_form.PartForm.TheVariants as form

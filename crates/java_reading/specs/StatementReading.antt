@@ -4,7 +4,6 @@ use Rattle.std.specs.List.{cons_option}
 use Rattle.java_lex.specs.declared.spelling.Terminal.{Terminal}
 use Rattle.java_lex.specs.declared.spelling.Terminal.TheVariants as terminal
 use Rattle.java_lex.specs.declared.token.Token.{Token}
-use Rattle.java_tree.specs.declared.names.Ident.{Ident}
 use Rattle.java_tree.specs.declared.names.Modifier.{Modifier}
 use Rattle.java_tree.specs.declared.names.TypeTree.{TypeTree}
 use Rattle.java_tree.specs.declared.names.TypeTree.TheVariants.{Int, Flag, Class as class_type}
@@ -13,15 +12,15 @@ use Rattle.java_tree.specs.Phrases.{Letter, letter, ident_of}
 use Rattle.java_tree.specs.Expressions.{place}
 use Rattle.java_tree.specs.Statements.{is_local_modifier, in_order, kept}
 use Rattle.reading_core.specs.Read.{Read, Got, Bad, Deep, ◌>>=◌, at_side}
-use Rattle.java_reading.specs.declared.marks.Fixed.TheVariants.{OpenBrace, CloseBrace, OpenParen, CloseParen, Semicolon, Comma, Dot, Assign, If, Else, While, Return}
+use Rattle.java_reading.specs.declared.marks.Fixed.TheVariants.{OpenBrace, CloseBrace, OpenParen, CloseParen, Semicolon, Comma, Assign, If, Else, While, Return}
 use Rattle.java_reading.specs.declared.form.Reached.{Reached}
 use Rattle.java_reading.specs.declared.form.Reached.TheVariants.{Bare, Place, Call}
 use Rattle.java_reading.specs.declared.form.Turn.{Turn}
 use Rattle.java_reading.specs.declared.form.Turn.TheVariants.{Assigns, Up, Down, Ends, Goes, Fails}
 use Rattle.java_reading.specs.declared.form.Form.{Form}
 use Rattle.java_reading.specs.declared.form.Form.TheVariants as form
-use Rattle.java_reading.specs.Readers.{Reader, head, give, first, second, with_first, and_then, taken, opening, repeat, optional, lower, left_below}
-use Rattle.java_reading.specs.Tokens.{is_name, stands, fixed, fixed_at, name_in, next_is, next_is_name}
+use Rattle.java_reading.specs.Readers.{Reader, head, give, first, second, and_then, taken, opening, repeat, optional, lower, left_below}
+use Rattle.java_reading.specs.Tokens.{stands, fixed, fixed_at, name_in, next_is, next_is_name}
 use Rattle.java_reading.specs.Forms.{form_of, begins_statement}
 
 -- MODIFIERS AND TYPES

@@ -1,11 +1,11 @@
 -- The tokens that stand at one place of a phrase alone.
-use Rattle.std.specs.Prelude.{ℕ, Bool, true, false, List, [], ◌∷◌, Option, Some, None}
+use Rattle.std.specs.Prelude.{ℕ, Bool, true, false, Option, Some, None}
 use Rattle.java_lex.specs.declared.spelling.Terminal.{Terminal}
 use Rattle.java_lex.specs.declared.spelling.Terminal.TheVariants as terminal
 use Rattle.java_lex.specs.declared.token.Token.{Token}
 use Rattle.java_tree.specs.declared.names.Ident.{Ident}
 use Rattle.java_tree.specs.Phrases.{ident_of}
-use Rattle.reading_core.specs.Read.{Read, at_side}
+use Rattle.reading_core.specs.Read.{at_side}
 use Rattle.java_reading.specs.Readers.{Reader, taken}
 use Rattle.java_reading.specs.declared.marks.Fixed.{Fixed}
 use Rattle.java_reading.specs.declared.marks.Fixed.TheVariants.{OpenBrace, CloseBrace, OpenParen, CloseParen, Semicolon, Comma, Dot, Assign, If, Else, While, Return, Class, Package, Import, Static, Times, Requires, Ensures, Invariant, NormalBehavior, End}

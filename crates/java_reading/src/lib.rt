@@ -4,6 +4,8 @@
 mod form;
 mod marks;
 mod part_form;
+#[cfg(test)]
+mod tests;
 mod tokens;
 
 pub use form::{Form, Reached, Turn, form_at, turn_at};

@@ -46,10 +46,7 @@ pub fn part_form_at(token: &Token) -> PartForm
         ) => PartForm::Plain,
         (
             true,
-            Terminal::Nullable
-            | Terminal::NonNull
-            | Terminal::SpecPublic
-            | Terminal::SpecProtected,
+            Terminal::Nullable | Terminal::NonNull | Terminal::SpecPublic | Terminal::SpecProtected,
         ) => PartForm::Plain,
         _ => PartForm::None,
     }

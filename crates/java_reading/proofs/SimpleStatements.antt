@@ -1,42 +1,13 @@
--- The laws of statements.
-use Rattle.std.proofs.Common.{◌≡◌, ◌⊎◌, ℕ, zero, suc, ◌+◌, ◌≤◌, Bool, true, false, List, [], ◌∷◌, ◌++◌, Option, Some, None, refl, sym, ap, ◌∙◌, subst, inl, inr, codes, arith, IsTrue}
-use Rattle.std.specs.List.{list_all}
-use Rattle.java_lex.specs.declared.spelling.Terminal.{Terminal}
+-- A statement that begins with a name or with `this`: each step of its expression is one of the tail behind its first token.
+use Rattle.std.proofs.Common.{◌≡◌, ◌⊎◌, ℕ, Bool, true, false, List, ◌∷◌, refl, sym, ap, ◌∙◌, subst, inl, inr}
 use Rattle.java_lex.specs.declared.spelling.Terminal.TheVariants as terminal
 use Rattle.java_lex.specs.declared.token.Token.{Token}
-use Rattle.java_lex.specs.Terminals.{terminal_of}
 use Rattle.java_tree.specs.declared.names.Ident.{Ident}
-use Rattle.java_tree.specs.declared.names.Modifier.{Modifier}
-use Rattle.java_tree.specs.declared.names.TypeTree.{TypeTree}
-use Rattle.java_tree.specs.declared.names.TypeTree.TheVariants.{Int, Flag, Class as class_type}
-use Rattle.java_tree.specs.Trees.{Expr, num, flag, null, this, outcome, make, named, call, read, call_on, paren, negation, minus, bin, old, quant, quant_in, has, size, Exprs, none, also, Decl, Stmt, block, blank, if_only, if_else, loops, gives_back, local, set, step, run, Stmts, done, next}
-use Rattle.java_tree.specs.Phrases.{Limit, Letter, Phrase, ◌▸◌, letter, ident_of, one, one_at, name, closed, opens, where_, nothing}
-use Rattle.java_tree.specs.Expressions.{phrase, expression, arguments, chained, is_steps, post, or, place, bracketed}
-use Rattle.java_tree.specs.Statements.{is_target, is_place, is_run, stepped, statement, statements, takes_else, condition, returned, is_local_modifier, declarations, type_of}
-use Rattle.reading_core.specs.Read.{Read, Got, Bad, Deep, at_side, ◌>>=◌}
-use Rattle.java_reading.specs.declared.form.Reached.{Reached}
-use Rattle.java_reading.specs.declared.form.Reached.TheVariants.{Bare, Place, Call}
-use Rattle.java_reading.specs.declared.form.Form.{Form}
-use Rattle.java_reading.specs.declared.form.Form.TheVariants as form
-use Rattle.java_reading.specs.declared.marks.Fixed.{Fixed}
-use Rattle.java_reading.specs.declared.marks.Fixed.TheVariants.{OpenBrace, CloseBrace, OpenParen, CloseParen, Semicolon, Comma, Assign, Dot, If, Else, While, Return}
-use Rattle.java_reading.specs.Readers.{Reader, head, give, first, second, and_then, opening, deeper_by, optional, repeat, lower}
-use Rattle.java_reading.specs.Tokens.{is_fixed, terminal_of_fixed, stands, fixed, fixed_at, name_in, at_head, next_is, next_is_name, is_name}
-use Rattle.java_reading.specs.Forms.{form_of, is_some_form, begins_statement}
-use Rattle.java_reading.specs.Expressions.{goes_on, extends, starts}
-use Rattle.java_reading.specs.StatementReading.{reached_in, named_in, further_in, declared_in, local_in, modifiers_in, type_in, condition_in, returned_in, block_in, while_in, else_in, if_in, choice_of, behind_name_in, statement_by, statement_in, statement_at, headed_in, deeper_in, stmts_of}
-use Rattle.java_reading.proofs.Law.{Family, Extends, never, any, Sample, Exact, Law, IsGot, Begun, Allows, Frees, Stops}
-use Rattle.java_reading.proofs.Seq.{seq, seq_law, seq_sample}
-use Rattle.java_reading.proofs.Parts.{give_law, give_at, give_sample, same_law, same_sample, behind, behind_law, bind_law, recast_law, recast_at}
-use Rattle.java_reading.proofs.Levels.{Below, full, room, opened, opening_law, opened_sample}
-use Rattle.java_reading.proofs.Many.{each, many_law, optional_of, optional_law, optional_sample, May_be}
-use Rattle.java_reading.proofs.TokenLaws.{fixed_is, fixed_law, fixed_sample, fixed_decided, fixed_at_law, fixed_at_sample, fixed_at_decided, name_law, name_sample, name_head, one_head, one_at_head, word_at, on_is, on_side}
-use Rattle.java_reading.proofs.Shapes.{then_it, it_then, then_fixed, fixed_then, fixed_then_sample, then_fixed_sample}
-use Rattle.java_reading.proofs.Starts.{arguments_start, expression_starts}
-use Rattle.java_reading.proofs.ModifierLaws.{MF, TF, allowed_head, type_head, TypeToken}
-use Rattle.java_reading.proofs.DeclarationLaws.{EF, EX, SF, KF, ModsF, expression_sample, no_extension, next_at, declared_law, mods_law}
-use Rattle.java_reading.proofs.Tails.{ArgsF, Tail, sets, steps, runs, reads, calls, TailF, NamedF, one_tail, TailHead, tail_head, tail_sample}
-use Rattle.java_reading.proofs.PlaceLaws.{reached_law, named_law, further_below}
+use Rattle.java_tree.specs.Trees.{Expr, this, named, call, read, call_on, Exprs, none, also, Stmt, set, step, run}
+use Rattle.java_tree.specs.Phrases.{Limit, Phrase, ◌▸◌, letter, ident_of, one, closed}
+use Rattle.java_tree.specs.Expressions.{phrase, expression, arguments, chained, is_steps, post, or, place}
+use Rattle.java_tree.specs.Statements.{is_target, is_place, is_run, stepped, statement}
+use Rattle.java_reading.proofs.Tails.{Tail, sets, steps, runs, reads, calls, NamedF}
 
 -- A STATEMENT THAT BEGINS WITH A NAME OR WITH `this`
 
@@ -113,9 +84,26 @@ unroll May l0 (named at i) target s us m ts k r (n, (at_is, (t, (is, i_is), part
   where
     names : (at : ℕ) (i : Ident) (t : Token) → at ≡ i.at → ident_of t ≡ i → named at i ≡ named t.from (ident_of t)
     names at i t at_is i_is = let e : at ≡ t.from = at_is ∙ ap (λ (v : Ident). v.at) (sym i_is) in let e' : i ≡ ident_of t = sym i_is in cc
-unroll May l0 (call at i args) target s us m ts k r (n, (side_is, (at_is, (m1, ts1, (t, (is, i_is), parts, up), h))), up2) tail =
-    (t, ts1, parts, inr (is, (k, inr (args, (l0, ts, subst (λ (v : ℕ). arguments May args l0 ts1 v ts) (arguments_level May args m1 ts1 n ts h ∙ up) (subst (λ (v : ℕ). arguments May args v ts1 n ts) up h),
-    with_expr May l0 (call at i args) (call t.from (ident_of t) args) s l0 ts k r (names at i t at_is i_is) (at_level May l0 (call at i args) s m l0 ts k r up2 tail))))))
+unroll May l0 (call at i args) target s us m ts k r (n, (side_is, (at_is, (m1, ts1, (t, (is, i_is), parts, up), h))), up2) tail = (
+  t,
+  ts1,
+  parts,
+  inr (
+    is,
+    (
+      k,
+      inr (
+        args,
+        (
+          l0,
+          ts,
+          subst (λ (v : ℕ). arguments May args l0 ts1 v ts) (arguments_level May args m1 ts1 n ts h ∙ up) (subst (λ (v : ℕ). arguments May args v ts1 n ts) up h),
+          with_expr May l0 (call at i args) (call t.from (ident_of t) args) s l0 ts k r (names at i t at_is i_is) (at_level May l0 (call at i args) s m l0 ts k r up2 tail),
+        ),
+      ),
+    ),
+  ),
+)
   where
     names : (at : ℕ) (i : Ident) (t : Token) → at ≡ i.at → ident_of t ≡ i → call at i args ≡ call t.from (ident_of t) args
     names at i t at_is i_is = let e : at ≡ t.from = at_is ∙ ap (λ (v : Ident). v.at) (sym i_is) in let e' : i ≡ ident_of t = sym i_is in cc
@@ -141,15 +129,19 @@ by_prefix May l0 e target s us ts n k r h tail = by (is_steps e) refl
 
 pub simple_start : (May : Limit) (s : Stmt) (l0 : ℕ) (us : List Token) (k : ℕ) (r : List Token) → is_simple s ≡ true → statement May s l0 us k r → Start May l0 s us r × (k ≡ l0)
 simple_start May (set a e) l0 us k r simple (is, (m, mid, (n, h, up), (m1, mid1, (t1, is1, p1, up1), (m2, mid2, (n2, h2, up2), (t3, is3, p3, up3))))) =
-    let k_is : k ≡ l0 = up3 ∙ up2 ∙ up1 ∙ up in
-    (by_prefix May l0 a (place_target a is) (set a e) us mid n k r h
-    (λ v. sets e is (subst (λ (z : ℕ). (one (false, terminal.Assign) ▸ expression May e ▸ one (false, terminal.Semicolon)) l0 mid z r) k_is
-    (subst (λ (z : ℕ). (one (false, terminal.Assign) ▸ expression May e ▸ one (false, terminal.Semicolon)) z mid k r) up (m1, mid1, (t1, is1, p1, up1), (m2, mid2, (n2, h2, up2), (t3, is3, p3, up3))))) refl), k_is)
+    let k_is : k ≡ l0 = up3 ∙ up2 ∙ up1 ∙ up in (
+      by_prefix May l0 a (place_target a is) (set a e) us mid n k r h
+          (λ v. sets e is (subst (λ (z : ℕ). (one (false, terminal.Assign) ▸ expression May e ▸ one (false, terminal.Semicolon)) l0 mid z r) k_is
+          (subst (λ (z : ℕ). (one (false, terminal.Assign) ▸ expression May e ▸ one (false, terminal.Semicolon)) z mid k r) up (m1, mid1, (t1, is1, p1, up1), (m2, mid2, (n2, h2, up2), (t3, is3, p3, up3))))) refl),
+      k_is,
+    )
 simple_start May (step a b) l0 us k r simple (is, (m, mid, (n, h, up), (m1, mid1, (t1, is1, p1, up1), (t3, is3, p3, up3)))) =
-    let k_is : k ≡ l0 = up3 ∙ up1 ∙ up in
-    (by_prefix May l0 a (place_target a is) (step a b) us mid n k r h
-    (λ v. steps b is (subst (λ (z : ℕ). (one (false, stepped b) ▸ one (false, terminal.Semicolon)) l0 mid z r) k_is
-    (subst (λ (z : ℕ). (one (false, stepped b) ▸ one (false, terminal.Semicolon)) z mid k r) up (m1, mid1, (t1, is1, p1, up1), (t3, is3, p3, up3)))) refl), k_is)
+    let k_is : k ≡ l0 = up3 ∙ up1 ∙ up in (
+      by_prefix May l0 a (place_target a is) (step a b) us mid n k r h
+          (λ v. steps b is (subst (λ (z : ℕ). (one (false, stepped b) ▸ one (false, terminal.Semicolon)) l0 mid z r) k_is
+          (subst (λ (z : ℕ). (one (false, stepped b) ▸ one (false, terminal.Semicolon)) z mid k r) up (m1, mid1, (t1, is1, p1, up1), (t3, is3, p3, up3)))) refl),
+      k_is,
+    )
 simple_start May (run e) l0 us k r simple (is, (m, mid, (n, h, up), (t3, is3, p3, up3))) =
     let k_is : k ≡ l0 = up3 ∙ up in
     (by_prefix May l0 e (run_target e is) (run e) us mid n k r h (λ v. runs is (t3, is3, p3, refl) refl), k_is)

@@ -1,6 +1,6 @@
--- The law of members.
-use Rattle.std.proofs.Common.{◌≡◌, ◌⊎◌, ℕ, zero, suc, ◌+◌, ◌≤◌, ◌<◌, Bool, true, false, not, ◌&&◌, ◌||◌, List, [], ◌∷◌, ◌++◌, length, Option, Some, None, refl, sym, ap, ◌∙◌, subst, inl, inr, codes, arith, filter, cond, ◌==◌, option_map}
-use Rattle.std.specs.List.{list_all, list_any, filter_map, flat_map, cons_option}
+-- The grammar of members, parted by what stands first, and the laws of what stands behind a specification.
+use Rattle.std.proofs.Common.{◌≡◌, ◌⊎◌, ℕ, ◌+◌, Bool, true, false, ◌&&◌, ◌||◌, List, [], ◌∷◌, ◌++◌, Option, Some, None, refl, sym, ap, ◌∙◌, subst, inl, inr, codes, filter, cond, ◌==◌, option_map}
+use Rattle.std.specs.List.{list_all, filter_map, cons_option}
 use Rattle.java_lex.specs.declared.spelling.Terminal.{Terminal}
 use Rattle.java_lex.specs.declared.spelling.Terminal.TheVariants as terminal
 use Rattle.java_lex.specs.declared.token.Token.{Token}
@@ -11,34 +11,30 @@ use Rattle.java_tree.specs.declared.names.ModWord.TheVariants.{Static as StaticW
 use Rattle.java_tree.specs.declared.names.Modifier.{Modifier}
 use Rattle.java_tree.specs.declared.names.TypeTree.{TypeTree}
 use Rattle.java_tree.specs.declared.names.TypeTree.TheVariants.{Int, Flag, Class as class_type}
-use Rattle.java_tree.specs.Trees.{Expr, Exprs, Stmt, Stmts, done, next, Clause, needs, gives, Param, Method, Part, invariant, field, method}
-use Rattle.java_tree.specs.Phrases.{Limit, Letter, Phrase, ◌▸◌, letter, ident_of, one, one_at, name, closed, nothing, where_, either, maybe}
+use Rattle.java_tree.specs.Trees.{Expr, Exprs, Stmt, Stmts, done, next, Clause, Param, Method, invariant, field, method}
+use Rattle.java_tree.specs.Phrases.{Limit, Letter, Phrase, ◌▸◌, letter, one, one_at, name, maybe}
 use Rattle.java_tree.specs.Expressions.{predicate}
-use Rattle.java_tree.specs.Statements.{is_local_modifier, is_null, type_of, modifiers, statements, in_order, kept, kept_word, rank}
-use Rattle.java_tree.specs.Members.{is_modifier, is_method_modifier, visibility, parameters, more_names, clause, clauses, some_clauses, specification, procedure, part, member, result_of, Written, empty, one_part, fields}
-use Rattle.reading_core.specs.Read.{Read, Got, Bad, Deep, ◌>>=◌, at_side}
-use Rattle.java_reading.specs.declared.marks.Fixed.{Fixed}
-use Rattle.java_reading.specs.declared.marks.Fixed.TheVariants.{OpenBrace, CloseBrace, OpenParen, CloseParen, Semicolon, Comma, Requires, Ensures, Invariant, NormalBehavior}
-use Rattle.java_reading.specs.declared.part_form.PartForm.{PartForm}
-use Rattle.java_reading.specs.declared.part_form.PartForm.TheVariants as form
-use Rattle.java_reading.specs.Readers.{Reader, head, give, first, second, and_then, optional, repeat, taken}
-use Rattle.java_reading.specs.Tokens.{is_fixed, terminal_of_fixed, fixed, fixed_at, name_in, at_head, next_is}
-use Rattle.java_reading.specs.PartForms.{part_form_of, is_part, head_part, begins_part}
-use Rattle.java_reading.specs.StatementReading.{modifiers_in, type_in, statement_at, statements_in, stmts_of, is_type, type_by}
-use Rattle.java_reading.specs.MemberReading.{is_clause, clauses_in, is_static, has_static, is_result, result_by, result_in, parameters_in, names_in, body_in, method_in, named_part_in, declared_part_in, normal_in, specified_in, visible_in, invariant_in, part_by_form, member_in}
-use Rattle.java_reading.proofs.Law.{Family, Extends, never, any, Sample, Exact, Law, IsGot}
+use Rattle.java_tree.specs.Statements.{modifiers, statements, in_order, kept, kept_word, rank}
+use Rattle.java_tree.specs.Members.{is_modifier, is_method_modifier, visibility, clauses, specification, procedure, member, result_of, Written, empty, one_part, fields}
+use Rattle.reading_core.specs.Read.{◌>>=◌, at_side}
+use Rattle.java_reading.specs.declared.marks.Fixed.TheVariants.{OpenBrace, CloseBrace, OpenParen, CloseParen}
+use Rattle.java_reading.specs.Readers.{Reader, head, give, and_then}
+use Rattle.java_reading.specs.Tokens.{is_fixed, fixed, name_in, next_is}
+use Rattle.java_reading.specs.StatementReading.{modifiers_in, statement_at, statements_in, stmts_of}
+use Rattle.java_reading.specs.MemberReading.{is_static, has_static, is_result, result_by, result_in, parameters_in, names_in, body_in, method_in, named_part_in, declared_part_in}
+use Rattle.java_reading.proofs.Law.{Family, never, any, Sample, Exact, Law}
 use Rattle.java_reading.proofs.Seq.{seq, seq_law, seq_sample}
-use Rattle.java_reading.proofs.Parts.{Decided, token_by, token_law, token_sample, give_law, give_at, give_sample, same_law, same_sample, bind_law, recast_law, recast_at, behind, behind_law, heads, tails}
-use Rattle.java_reading.proofs.TokenLaws.{fixed_is, fixed_law, fixed_sample, fixed_at_law, fixed_at_sample, name_law, name_sample, name_head, one_head, one_at_head, on_is, on_side, word_at}
+use Rattle.java_reading.proofs.Parts.{Decided, token_by, token_law, token_sample, give_law, give_sample, same_law, same_sample, bind_law, recast_at}
+use Rattle.java_reading.proofs.TokenLaws.{name_law, name_sample, one_head, on_is, on_side, word_at}
 use Rattle.java_reading.proofs.Shapes.{then_it, it_then, then_fixed, fixed_then, fixed_then_sample, then_fixed_sample}
-use Rattle.java_reading.proofs.ModifierLaws.{MF, MX, TF, TypeToken, allowed_head, modifiers_law, modifiers_sample, type_law, type_sample, type_head, type_decided}
-use Rattle.java_reading.proofs.DeclarationLaws.{EF, EX, next_at}
+use Rattle.java_reading.proofs.ModifierLaws.{MF, MX, TypeToken, allowed_head, modifiers_law, modifiers_sample}
+use Rattle.java_reading.proofs.DeclarationLaws.{EF, EX}
 use Rattle.java_reading.proofs.Tails.{ArgsF}
 use Rattle.java_reading.proofs.Beginnings.{and_left}
-use Rattle.java_reading.proofs.StatementExact.{StF, SX, SS, EndX, brace_closes, statements_law, body_to, body_from}
+use Rattle.java_reading.proofs.StatementForms.{StF, EndX, brace_closes, statements_law}
 use Rattle.java_reading.proofs.StatementLaw.{statement_law}
 use Rattle.java_reading.proofs.Many.{each}
-use Rattle.java_reading.proofs.PartLaws.{closed_of, closed_law, closed_sample, PF, PX, EndedF, ended_law, ended_sample, ClauseF, begins_clause, clause_first, ClausesF, ClausesX, clauses_law, ParamsF, ParamsX, parameters_law, paren_closes, NamesF, names_law, names_sample, names_head, type_no_modifier}
+use Rattle.java_reading.proofs.PartLaws.{closed_of, closed_law, ParamsF, ParamsX, parameters_law, paren_closes, NamesF, names_law, names_head, type_no_modifier}
 
 -- "void" OR A TYPE
 
@@ -225,9 +221,10 @@ methods_all : (f : List Token) → list_all (λ t. is_modifier (letter t)) f ≡
 methods_all [] all = (refl, refl)
 methods_all (t ∷ f) all =
     let is : is_modifier (letter t) ≡ true = and_left (is_modifier (letter t)) _ all in
-    let more = methods_all f (all_right (is_modifier (letter t)) _ all) in
-    (both_true (is_method_modifier (letter t)) _ (modifier_is (letter t) is) more.0,
-    ap has_static (cons_is (kept t) (filter_map kept f)) ∙ any_append (cons_option (kept t) []) (filter_map kept f) (modifier_kept (letter t) t.from is) more.1)
+    let more = methods_all f (all_right (is_modifier (letter t)) _ all) in (
+      both_true (is_method_modifier (letter t)) _ (modifier_is (letter t) is) more.0,
+      ap has_static (cons_is (kept t) (filter_map kept f)) ∙ any_append (cons_option (kept t) []) (filter_map kept f) (modifier_kept (letter t) t.from is) more.1,
+    )
   where
     both_true : (a b : Bool) → a ≡ true → b ≡ true → (a && b) ≡ true
     both_true true b e f = f
@@ -314,7 +311,6 @@ module _ (expression : ℕ → Reader Expr) (arguments : ℕ → Reader Exprs) (
     (expression_law : (left l : ℕ) → l + left ≡ 64 → Exact Expr EF EX any l (expression left))
     (arguments_law : (left l : ℕ) → l + left ≡ 64 → Exact Exprs ArgsF never any l (arguments left)) (arguments_sample : (l : ℕ) → Sample Exprs ArgsF l)
     (left l : ℕ) (sum : l + left ≡ 64) where
-
   body_law : Exact (List Param × List Stmt) BodyMF never any l (body_in expression arguments predicate_in left)
   body_law ts =
       give_law (Unit {0} × (List Param × (Unit {0} × (Unit {0} × (List Stmt × Unit {0}))))) (List Param × List Stmt) F5 never any BodyMF never any (λ x. (x.1.0, x.1.1.1.1.0)) (λ May x m us k r h. h) (λ x h none. none) (λ x h s. tt) l ts
@@ -437,9 +433,14 @@ procedure_to May spec mods result i x l us m vs k r hs (m1, us1, h1, (m2, us2, h
 procedure_from : (May : Limit) (v : Method) (l : ℕ) (us : List Token) (k : ℕ) (r : List Token) → procedure May v l us k r
     → (m : ℕ) × (vs : List Token) × (x : List Param × List Stmt) × specification May v.spec l us m vs × (one_part (method v) ≡ made v.spec v.mods v.result v.name x) × HeadF v.mods v.result v.name x May m vs k r
 procedure_from May v l us k r (m, vs, hs, (m1, us1, h1, (m2, us2, h2, (m3, us3, h3, (m4, us4, h4, (m5, us5, h5, (m6, us6, h6, (m7, us7, h7, (m8, us8, (n, h8, up), h9))))))))) =
-    let list = stmts_from May v.body m7 us7 n us8 h8 in
-    (m, vs, (v.params, list.0), hs, ap (λ b. one_part (method (record { spec = v.spec; mods = v.mods; result = v.result; name = v.name; params = v.params; body = b }))) list.1,
-    (m1, us1, h1, (m2, us2, h2, (m3, us3, h3, (m4, us4, h4, (m5, us5, h5, (m6, us6, h6, (m7, us7, h7, (m8, us8, (n, list.2, up), h9)))))))))
+    let list = stmts_from May v.body m7 us7 n us8 h8 in (
+      m,
+      vs,
+      (v.params, list.0),
+      hs,
+      ap (λ b. one_part (method (record { spec = v.spec; mods = v.mods; result = v.result; name = v.name; params = v.params; body = b }))) list.1,
+      (m1, us1, h1, (m2, us2, h2, (m3, us3, h3, (m4, us4, h4, (m5, us5, h5, (m6, us6, h6, (m7, us7, h7, (m8, us8, (n, list.2, up), h9)))))))),
+    )
 
 abbrev pub InvF : Family Written
 InvF May w l us k r = (at : ℕ) × (e : Expr) × (w ≡ one_part (invariant at e)) × (one_at (true, terminal.Invariant) at ▸ predicate May e ▸ one (true, terminal.Semicolon)) l us k r
@@ -485,8 +486,13 @@ method_parted May v l us k r h = by v.spec (procedure_from May v l us k r h).0 (
 pub parted_of : (May : Limit) (w : Written) (l : ℕ) (us : List Token) (k : ℕ) (r : List Token) → member May w l us k r → Parted May w l us k r
 parted_of May empty l us k r h = semicolon refl h
 parted_of May (one_part (invariant at e)) l us k r (m1, us1, inl (up, same), h) =
-    condition (at, e, refl, subst (λ (z : List Token). (one_at (true, terminal.Invariant) at ▸ predicate May e ▸ one (true, terminal.Semicolon)) l z k r) same
-    (subst (λ (n : ℕ). (one_at (true, terminal.Invariant) at ▸ predicate May e ▸ one (true, terminal.Semicolon)) n us1 k r) up h))
+    condition (
+      at,
+      e,
+      refl,
+      subst (λ (z : List Token). (one_at (true, terminal.Invariant) at ▸ predicate May e ▸ one (true, terminal.Semicolon)) l z k r) same
+          (subst (λ (n : ℕ). (one_at (true, terminal.Invariant) at ▸ predicate May e ▸ one (true, terminal.Semicolon)) n us1 k r) up h),
+    )
 parted_of May (one_part (invariant at e)) l us k r (m1, us1, inr seen, h) = visible (m1, us1, seen, inl (at, e, refl, h))
 parted_of May (one_part (field mods kind i)) l us k r h = absurd h.0
 parted_of May (one_part (method v)) l us k r h = method_parted May v l us k r h
