@@ -1,13 +1,10 @@
 -- What is read one level deeper, for each number of levels that are left.
-use Rattle.std.proofs.Common.{◌≡◌, ℕ, ◌+◌, ◌<◌, zero, suc, Bool, List, length, refl, sym, ◌∙◌, ap, subst, arith}
-use Rattle.std.specs.Prelude.{Option, Some, None}
+use Rattle.std.proofs.Common.{◌≡◌, ℕ, ◌+◌, zero, suc, Bool, List, arith}
 use Rattle.java_lex.specs.declared.token.Token.{Token}
-use Rattle.reading_core.specs.Read.{OnGot}
-use Rattle.reading_core.specs.Deeper.{Level}
 use Rattle.reading_core.specs.Machine.{Test, Act}
 use Rattle.reading_core.specs.Follow.{Allows}
 use Rattle.reading_core.specs.Exact.{Counts}
-use Rattle.expression_reading.specs.Reading.{Below, operand_in, chain_in, step_in, below}
+use Rattle.expression_reading.specs.Reading.{operand_in, below}
 use Rattle.expression_reading.specs.Wants.{Want, is_ready, reacts}
 use Rattle.expression_reading.proofs.Sound.{IsSound, operand_sound, operand_short, chain_sound, step_sound}
 use Rattle.expression_reading.proofs.Sim.{IsSim, operand_sim, chain_sim, step_sim}
@@ -18,8 +15,7 @@ module _ (may : ℕ → List Token → Bool) (test : Test) (cap : ℕ) (counts :
   unfolding below
   below_sound zero l is = λ ts. counts.shuts (suc l) ts (omega arith)
   below_sound (suc left) l is =
-      let deeper = below_sound left (suc l) (omega arith) in
-      (
+      let deeper = below_sound left (suc l) (omega arith) in (
         λ ts. counts.opens (suc l) left ts (omega arith),
         record {
           operand = operand_sound test side (suc l) (below side may left) deeper;
@@ -35,8 +31,7 @@ module _ (may : ℕ → List Token → Bool) (test : Test) (cap : ℕ) (counts :
     below_sim zero l is = λ ts. counts.shuts (suc l) ts (omega arith)
     below_sim (suc left) l is =
         let deeper = below_sim left (suc l) (omega arith) in
-        let sound = below_sound left (suc l) (omega arith) in
-        (
+        let sound = below_sound left (suc l) (omega arith) in (
           λ ts. counts.opens (suc l) left ts (omega arith),
           record {
             operand = operand_sim react ready test inn reacts_so ready_so side (suc l) (below side may left) deeper;

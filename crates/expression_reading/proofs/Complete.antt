@@ -1,22 +1,21 @@
 -- What is of the grammar is read.
-use Rattle.std.proofs.Common.{◌≡◌, ℕ, ◌+◌, ◌-◌, ◌<◌, ◌≤◌, ◌==◌, zero, suc, Bool, true, false, bytes_eq, List, [], ◌∷◌, length, refl, sym, ◌∙◌, ap, subst, arith, ◌⊎◌, inl, inr, lit≤, lit<}
+use Rattle.std.proofs.Common.{◌≡◌, ℕ, ◌+◌, ◌-◌, ◌<◌, ◌≤◌, ◌==◌, zero, suc, Bool, true, false, bytes_eq, List, [], ◌∷◌, length, refl, sym, ◌∙◌, ap, subst, arith, ◌⊎◌, inl, inr, lit<}
 use Rattle.std.specs.Prelude.{Option, Some, None}
 use Rattle.std.proofs.lemmas.Bool.{eq-eqb, eqb-true, eqb-false, ne_eqb}
 use Rattle.std.proofs.lemmas.Bool.Decides.{leb_tells}
 use Rattle.std.specs.Prelude.{leb}
-use Rattle.std.proofs.lemmas.Slice.Eq.{bytes_eq-Decides}
 use Rattle.java_lex.specs.declared.spelling.Terminal.{Terminal}
 use Rattle.java_lex.specs.declared.spelling.Terminal.TheVariants as terminal
 use Rattle.java_lex.specs.declared.token.Token.{Token}
-use Rattle.java_lex.specs.declared.token.TokenKind.TheVariants.{Word, Number}
+use Rattle.java_lex.specs.declared.token.TokenKind.TheVariants.{Word}
 use Rattle.java_lex.specs.declared.words.TheConstants.{HAS, INT_SIZE}
 use Rattle.java_tree.specs.declared.expressions.Sign.{Sign}
 use Rattle.java_tree.specs.declared.expressions.Sign.TheVariants as sign
 use Rattle.java_tree.specs.declared.names.Ident.{Ident}
 use Rattle.java_tree.specs.Trees.{Expr, num, flag, null, this, outcome, make, named, call, read, call_on, paren, negation, minus, bin, old, quant, quant_in, has, size, Exprs, none, also}
-use Rattle.java_tree.specs.Phrases.{Phrase, ◌▸◌, Letter, letter, ident_of, text_of, one, name, opens, closed, nothing, token}
-use Rattle.java_tree.specs.Expressions.{phrase, arguments, more_arguments, more_fields, fields_of, bracketed, chained, is_steps, is_chain, left_tier, right_tier, whole, place, tier_of, terminal_of_sign, quantifier, unary, post}
-use Rattle.reading_core.specs.Read.{Read, Got, Bad, Deep, OnGot, ◌>>=◌, at_side, expect, is_name, is_close, is_comma, is_semicolon, is_open, is_open_terminal, is_close_terminal, is_comma_terminal, is_semicolon_terminal, is_name_terminal, number_of}
+use Rattle.java_tree.specs.Phrases.{Phrase, ◌▸◌, letter, ident_of, text_of, one, name, opens, closed, nothing, token}
+use Rattle.java_tree.specs.Expressions.{arguments, more_arguments, more_fields, fields_of, bracketed, chained, is_steps, is_chain, left_tier, right_tier, whole, place, tier_of, terminal_of_sign, quantifier, unary, post}
+use Rattle.reading_core.specs.Read.{Read, Got, Bad, ◌>>=◌, at_side, expect, is_name, is_close, is_comma, is_semicolon, is_open, is_open_terminal, is_close_terminal, is_comma_terminal, is_semicolon_terminal, is_name_terminal, number_of}
 use Rattle.reading_core.specs.Deeper.{Level, deeper, enclosed, bracket}
 use Rattle.reading_core.specs.Loops.{repeat}
 use Rattle.reading_core.specs.Machine.{Test}
@@ -25,8 +24,9 @@ use Rattle.reading_core.proofs.Runs.{tested, when_true, when_false}
 use Rattle.reading_core.proofs.ReadLaws.{on_bind, on_weaken, on_expect, IsFirst, Short, expect_got, repeat_got, repeat_end}
 use Rattle.reading_core.proofs.Tokens.{at_letter}
 use Rattle.reading_core.proofs.Parts.{from_token, from_opens, from_closed}
-use Rattle.expression_reading.specs.Operators.{Link, Ends, Left, Right, sign_of, link_by, link_at, link, top}
-use Rattle.expression_reading.specs.Reading.{Below, Reach, exprs, link_in, chain_in, steps_in, argument_in, arguments_in, called_by, called_in, step_in, field_in, reach_in, is_word, is_dot, is_plus, is_dot_terminal, is_plus_terminal, first_is, question_in, second_by, second_in, quantified_in, paren_in, group_by, group_in, unary_by, unary_in, operand_in, below}
+use Rattle.expression_reading.specs.declared.operators.Link.TheVariants.{Ends}
+use Rattle.expression_reading.specs.Operators.{sign_of, link_by, link_at, link_of, top}
+use Rattle.expression_reading.specs.Reading.{Below, exprs, link_in, chain_in, steps_in, argument_in, arguments_in, called_by, called_in, step_in, field_in, reach_in, is_word, is_dot, is_plus, is_dot_terminal, is_plus_terminal, first_is, question_in, second_by, second_in, quantified_in, paren_in, group_by, group_in, unary_by, unary_in, operand_in, below}
 use Rattle.expression_reading.proofs.Links.{is_of, left_of, left_tier_of, right_tier_of, is_chain_of, implies_of, tier_from_2}
 use Rattle.expression_reading.proofs.Sound.{Is, operand_sound, operand_short}
 use Rattle.expression_reading.proofs.Below.{below_sound}
@@ -79,13 +79,13 @@ sign_no_open sign.Or = refl
 sign_no_open sign.Implies = refl
 sign_no_open sign.Iff = refl
 
-link_signed : (side : Bool) (n : ℕ) (t : Token) (s : Sign) → letter t ≡ (side, terminal_of_sign s) → link side n t ≡ link_at n (Some s)
+link_signed : (side : Bool) (n : ℕ) (t : Token) (s : Sign) → letter t ≡ (side, terminal_of_sign s) → link_of side n t ≡ link_at n (Some s)
 link_signed side n t s is = ap (λ x. link_at n (sign_of x)) (at_letter side t (terminal_of_sign s) is) ∙ ap (link_at n) (sign_again s)
 
-link_own : (side : Bool) (n : ℕ) (t : Token) (s : Sign) → letter t ≡ (side, terminal_of_sign s) → tier_of s ≡ suc (suc n) → link side n t ≡ link_by s
+link_own : (side : Bool) (n : ℕ) (t : Token) (s : Sign) → letter t ≡ (side, terminal_of_sign s) → tier_of s ≡ suc (suc n) → link_of side n t ≡ link_by s
 link_own side n t s is tier = link_signed side n t s is ∙ when_true (tier_of s == suc (suc n)) _ _ (eq-eqb (tier_of s) (suc (suc n)) tier)
 
-link_other : (side : Bool) (n : ℕ) (t : Token) (s : Sign) → letter t ≡ (side, terminal_of_sign s) → (tier_of s ≡ suc (suc n) → ⊥) → link side n t ≡ Ends
+link_other : (side : Bool) (n : ℕ) (t : Token) (s : Sign) → letter t ≡ (side, terminal_of_sign s) → (tier_of s ≡ suc (suc n) → ⊥) → link_of side n t ≡ Ends
 link_other side n t s is not = link_signed side n t s is ∙ when_false (tier_of s == suc (suc n)) _ _ (ne_eqb (tier_of s) (suc (suc n)) not)
 
 -- WHAT FOLLOWS
@@ -93,7 +93,7 @@ link_other side n t s is not = link_signed side n t s is ∙ when_false (tier_of
 -- Nothing that goes on with an operand of the number n comes first.
 abbrev pub IsFree : Bool → ℕ → List Token → Type 0
 IsFree side n [] = Unit {0}
-IsFree side n (t ∷ ts) = ((m : ℕ) → m < n → link side m t ≡ Ends) × (is_dot side t ≡ false) × (is_open side t ≡ false)
+IsFree side n (t ∷ ts) = ((m : ℕ) → m < n → link_of side m t ≡ Ends) × (is_dot side t ≡ false) × (is_open side t ≡ false)
 
 pub free_less : (side : Bool) (m n : ℕ) → m ≤ n → (ts : List Token) → IsFree side n ts → IsFree side m ts
 free_less side m n low [] free = tt {0}
@@ -389,7 +389,7 @@ module _ (may : ℕ → List Token → Bool) (test : Test) (cap : ℕ) (counts :
       let y = in_brackets false (IsInside es) l ts k rest (inside_of es x) in
       ap (called_in false (At false l) plain_ with_) y.parts ∙ ap (λ z. called_by z (At false l) plain_ with_ y.open_ y.behind) (at_letter false y.open_ terminal.OpenParen y.is_open_)
       ∙ ap (λ (r : Read Exprs). r >>= (λ es rest. steps_in false (At false l) (with_ es) rest))
-          (closed_got false (IsInside es) l ts rest arguments_in es y (cs.inside (suc l) (low_of (suc l) y.behind y.opened) y.behind y.level y.mid y.close rest y.inside y.ends y.is_close_))
+      (closed_got false (IsInside es) l ts rest arguments_in es y (cs.inside (suc l) (low_of (suc l) y.behind y.opened) y.behind y.level y.mid y.close rest y.inside y.ends y.is_close_))
     where
       inside_of : (es : Exprs) → arguments (Decided test) es l ts k rest → bracketed (Decided test) false (IsInside es) l ts k rest
       inside_of none z = z
@@ -471,9 +471,9 @@ module _ (may : ℕ → List Token → Bool) (test : Test) (cap : ℕ) (counts :
       let c = in_brackets false nothing l b.behind k rest b.then_ in
       unary_at false l terminal.New a.first a.behind ts a.parts a.is.0
       ∙ ap (λ (r : Read Token). r >>= (λ i rest. bracket false (At false l) rest (λ b rest. Got (tt {0}) rest) >>= (λ _ rest. steps_in false (At false l) (make a.first.from (ident_of i)) rest)))
-          (expect_at false is_name_terminal terminal.Name b.first b.behind a.behind b.parts b.is.0 refl)
+      (expect_at false is_name_terminal terminal.Name b.first b.behind a.behind b.parts b.is.0 refl)
       ∙ ap (λ (r : Read (Unit {0})). r >>= (λ _ rest. steps_in false (At false l) (make a.first.from (ident_of b.first)) rest))
-          (bracket_got false nothing l b.behind rest (λ b rest. Got (tt {0}) rest) (tt {0}) c (ap (Got (tt {0})) (sym c.inside.1)))
+      (bracket_got false nothing l b.behind rest (λ b rest. Got (tt {0}) rest) (tt {0}) c (ap (Got (tt {0})) (sym c.inside.1)))
       ∙ ap (λ j. steps_in false (At false l) (make a.first.from j) rest) b.is.1 ∙ ap (λ m. steps_in false (At false l) (make m i) rest) a.is.1) x)
 
   old_complete : (at : ℕ) (e : Expr) → IsComplete e → IsComplete (old at e)
@@ -484,8 +484,8 @@ module _ (may : ℕ → List Token → Bool) (test : Test) (cap : ℕ) (counts :
       let b = in_brackets true (closed (Is test e true (whole true))) l a.behind k rest a.then_ in
       unary_at true l terminal.Old a.first a.behind ts a.parts a.is.0
       ∙ ap (λ (r : Read Expr). r >>= (λ e rest. steps_in true (At true l) (old a.first.from e) rest))
-          (bracket_got true (closed (Is test e true (whole true))) l a.behind rest (λ b rest. b.operand (top true) rest) e b
-          (whole_got e c (suc l) b.behind b.level b.mid b.inside (free_close true 8 b.close rest b.mid b.ends b.is_close_)))
+      (bracket_got true (closed (Is test e true (whole true))) l a.behind rest (λ b rest. b.operand (top true) rest) e b
+      (whole_got e c (suc l) b.behind b.level b.mid b.inside (free_close true 8 b.close rest b.mid b.ends b.is_close_)))
       ∙ ap (λ m. steps_in true (At true l) (old m e) rest) a.is.1) x)
 
   -- no quantifier begins an operand
@@ -538,12 +538,11 @@ module _ (may : ℕ → List Token → Bool) (test : Test) (cap : ℕ) (counts :
   behind_dot e c side l ts k rest q (m, mid, x, y) =
       let a = from_token (opens (Decided test) ▸ q) m mid k rest _ y in
       let (opened, z) = from_opens q m a.behind k rest (Decided test) a.then_ in
-      let at = at_letter side a.first terminal.Dot a.is in
-      (
+      let at = at_letter side a.first terminal.Dot a.is in (
         suc m,
         a.behind,
         before_dot e c side l ts m mid x (subst (λ (us : List Token). NotOpen side us) (sym a.parts) (ap is_open_terminal at))
-        ∙ ap (steps_in side (At side m) e) a.parts ∙ when_true (is_dot side a.first) _ _ (ap is_dot_terminal at) ∙ deeper_at side m (a.first ∷ a.behind) a.behind (λ b. b.step e a.behind) opened,
+            ∙ ap (steps_in side (At side m) e) a.parts ∙ when_true (is_dot side a.first) _ _ (ap is_dot_terminal at) ∙ deeper_at side m (a.first ∷ a.behind) a.behind (λ b. b.step e a.behind) opened,
         z,
       )
 
@@ -564,7 +563,7 @@ module _ (may : ℕ → List Token → Bool) (test : Test) (cap : ℕ) (counts :
       let a = from_token (arguments (Decided test) es) m us k rest _ z in
       goes
       ∙ ap (λ (r : Read Token). r >>= (λ i rest. called_in false (At false m) (read (place e) e (ident_of i)) (call_on (place e) e (ident_of i)) rest))
-          (expect_at false is_name_terminal terminal.Name a.first a.behind us a.parts a.is.0 refl)
+      (expect_at false is_name_terminal terminal.Name a.first a.behind us a.parts a.is.0 refl)
       ∙ args_got es cs m a.behind k rest a.then_ (read (place e) e (ident_of a.first)) (call_on (place e) e (ident_of a.first))
       ∙ ap (λ j. steps_in false (At false m) (call_on (place e) e j es) rest) a.is.1 ∙ ap (λ p. steps_in false (At false m) (call_on p e i es) rest) (sym same)
       ∙ ap (λ j. steps_in false (At false j) (call_on at e i es) rest) (sym (args_level es m a.behind k rest a.then_))) x)
@@ -594,14 +593,13 @@ module _ (may : ℕ → List Token → Bool) (test : Test) (cap : ℕ) (counts :
       let a = from_token (name true i ▸ one (true, terminal.Semicolon) ▸ closed (Is test e true (whole true)) ▸ q) l ts k rest _ x in
       let b = from_token (one (true, terminal.Semicolon) ▸ closed (Is test e true (whole true)) ▸ q) l a.behind k rest _ a.then_ in
       let d = from_token (closed (Is test e true (whole true)) ▸ q) l b.behind k rest _ b.then_ in
-      let y = from_closed q l d.behind k rest (Is test e true (whole true)) d.then_ in
-      (
+      let y = from_closed q l d.behind k rest (Is test e true (whole true)) d.then_ in (
         y.mid,
         bind_got (expect (is_name true) ts) _ a.first a.behind (expect_at true is_name_terminal terminal.Name a.first a.behind ts a.parts a.is.0 refl)
-        ∙ bind_got (expect (is_name true) a.behind) _ b.first b.behind (expect_at true is_name_terminal terminal.Name b.first b.behind a.behind b.parts b.is.0 refl)
-        ∙ bind_got (expect (is_semicolon true) b.behind) _ d.first d.behind (expect_at true is_semicolon_terminal terminal.Semicolon d.first d.behind b.behind d.parts d.is refl)
-        ∙ bind_got (operand_in true (At true l) (top true) d.behind) _ e y.mid (c.got true 8 l d.behind y.level y.mid y.first (free y.mid y.then_))
-        ∙ ap (λ j. second_in (readers true l) at all j (ident_of b.first) e y.mid) a.is.1 ∙ ap (λ j. second_in (readers true l) at all kind j e y.mid) b.is.1,
+            ∙ bind_got (expect (is_name true) a.behind) _ b.first b.behind (expect_at true is_name_terminal terminal.Name b.first b.behind a.behind b.parts b.is.0 refl)
+            ∙ bind_got (expect (is_semicolon true) b.behind) _ d.first d.behind (expect_at true is_semicolon_terminal terminal.Semicolon d.first d.behind b.behind d.parts d.is refl)
+            ∙ bind_got (operand_in true (At true l) (top true) d.behind) _ e y.mid (c.got true 8 l d.behind y.level y.mid y.first (free y.mid y.then_))
+            ∙ ap (λ j. second_in (readers true l) at all j (ident_of b.first) e y.mid) a.is.1 ∙ ap (λ j. second_in (readers true l) at all kind j e y.mid) b.is.1,
         y.then_,
       )
 
@@ -616,7 +614,7 @@ module _ (may : ℕ → List Token → Bool) (test : Test) (cap : ℕ) (counts :
       let (opened, z) = from_opens (one (true, quantifier all) ▸ name true kind ▸ name true i ▸ one (true, terminal.Semicolon) ▸ closed (Is test e true (whole true)) ▸ one (true, terminal.CloseParen)) l a.behind j rest (Decided test) a.then_ in
       let b = from_token (name true kind ▸ name true i ▸ one (true, terminal.Semicolon) ▸ closed (Is test e true (whole true)) ▸ one (true, terminal.CloseParen)) (suc l) a.behind j rest _ z in
       let (mid, goes, (u, u_is, ends, level')) = quantified_got e c (suc l) a.first.from all kind i b.behind j rest (one (true, terminal.CloseParen)) b.then_
-          (λ us (u, u_is, ends, level'). free_close true 8 u rest us ends u_is) in
+      (λ us (u, u_is, ends, level'). free_close true 8 u rest us ends u_is) in
       unary_at true l terminal.OpenParen a.first a.behind ts a.parts a.is.0 ∙ deeper_at true l (a.first ∷ a.behind) a.behind _ opened
       ∙ quantifier_first all l a.first.from b.first b.behind a.behind b.parts b.is ∙ goes
       ∙ ap (second_in (readers true (suc l)) a.first.from all kind i e) ends
@@ -712,16 +710,15 @@ module _ (may : ℕ → List Token → Bool) (test : Test) (cap : ℕ) (counts :
       let (m, mid, y, z) = a.then_ in
       let b = in_brackets true (InReach e kind fields) l a.behind m mid y in
       let d = from_token (token P ▸ q) m mid k rest _ z in
-      let g = from_token q m d.behind k rest P d.then_ in
-      (
+      let g = from_token q m d.behind k rest P d.then_ in (
         g.first,
         g.behind,
         unary_at true l terminal.Reach a.first a.behind ts a.parts a.is.0
-        ∙ bind_got (bracket true (At true l) a.behind reach_in) _ (record { root = e; kind = kind; fields = fields }) mid
-        (bracket_got true (InReach e kind fields) l a.behind mid reach_in (record { root = e; kind = kind; fields = fields }) b (reach_got e c kind fields (suc l) b.behind b.level b.mid b.close mid b.inside b.ends b.is_close_))
-        ∙ bind_got (expect (is_dot true) mid) _ d.first d.behind (expect_at true is_dot_terminal terminal.Dot d.first d.behind mid d.parts d.is refl)
-        ∙ ap (question_in (At true l) a.first.from (record { root = e; kind = kind; fields = fields })) g.parts
-        ∙ ap (λ m. question_in (At true l) m (record { root = e; kind = kind; fields = fields }) (g.first ∷ g.behind)) a.is.1,
+            ∙ bind_got (bracket true (At true l) a.behind reach_in) _ (record { root = e; kind = kind; fields = fields }) mid
+            (bracket_got true (InReach e kind fields) l a.behind mid reach_in (record { root = e; kind = kind; fields = fields }) b (reach_got e c kind fields (suc l) b.behind b.level b.mid b.close mid b.inside b.ends b.is_close_))
+            ∙ bind_got (expect (is_dot true) mid) _ d.first d.behind (expect_at true is_dot_terminal terminal.Dot d.first d.behind mid d.parts d.is refl)
+            ∙ ap (question_in (At true l) a.first.from (record { root = e; kind = kind; fields = fields })) g.parts
+            ∙ ap (λ m. question_in (At true l) m (record { root = e; kind = kind; fields = fields }) (g.first ∷ g.behind)) a.is.1,
         g.is,
         subst (λ (n : ℕ). q n g.behind k rest) y.2 g.then_,
       )
@@ -817,8 +814,9 @@ module _ (may : ℕ → List Token → Bool) (test : Test) (cap : ℕ) (counts :
         by : (m : ℕ) × (tier_of s ≡ suc (suc m)) → operand_in side (At side l) n ts ≡ Got (bin at s a b) rest
         by (m, tier) =
             elim (tested (m == 6)) [
-              inl is ↦ implies_got (implies_of s (tier ∙ ap (λ i. suc (suc i)) (eqb-true m 6 is))) side n l ts k rest x free
-            | inr not ↦ other_got m tier (eqb-false m 6 not) side n l ts k rest x free ]
+              | inl is ↦ implies_got (implies_of s (tier ∙ ap (λ i. suc (suc i)) (eqb-true m 6 is))) side n l ts k rest x free
+              | inr not ↦ other_got m tier (eqb-false m 6 not) side n l ts k rest x free
+            ]
 
     bin_complete : IsComplete (bin at s a b)
     bin_complete = record {

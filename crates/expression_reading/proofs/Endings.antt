@@ -1,23 +1,22 @@
 -- What is awaited within an expression can be brought to its end.
-use Rattle.std.proofs.Common.{◌≡◌, ℕ, ◌+◌, ◌<◌, zero, suc, Bool, true, false, List, [], ◌∷◌, ◌++◌, map, codes, refl, sym, ◌∙◌, ap, subst, arith, lit<}
+use Rattle.std.proofs.Common.{◌≡◌, ℕ, ◌<◌, zero, suc, Bool, true, false, List, [], ◌∷◌, map, refl, sym, ◌∙◌, ap, subst, arith, lit<}
 use Rattle.std.proofs.lemmas.List.{map-append}
 use Rattle.java_lex.specs.declared.spelling.Terminal.{Terminal}
 use Rattle.java_lex.specs.declared.spelling.Terminal.TheVariants as terminal
 use Rattle.java_lex.specs.declared.token.Token.{Token}
 use Rattle.java_lex.specs.declared.words.TheConstants.{HAS, INT_SIZE}
-use Rattle.java_tree.specs.declared.expressions.Sign.{Sign}
-use Rattle.java_tree.specs.declared.expressions.Sign.TheVariants as sign
-use Rattle.std.specs.Prelude.{Option, Some, None}
+use Rattle.std.specs.Prelude.{None}
 use Rattle.reading_core.specs.Read.{at_side, is_name, is_open, is_close, is_comma, is_semicolon}
-use Rattle.reading_core.specs.Machine.{Act, Take, Open, Leave, Refuse, then_, takes_if, opens_if}
+use Rattle.reading_core.specs.Machine.{Act, Take, Leave, Refuse, then_, takes_if, opens_if}
 use Rattle.reading_core.specs.Endings.{Settled, Takes, all_calm, tail_calm, ranks, is_quiet, quiet_token}
-use Rattle.reading_core.proofs.Runs.{when_true, when_false}
 use Rattle.reading_core.proofs.Ends.{ranks-append}
 use Rattle.reading_core.proofs.Inside.{quiet_at, ranks_inside, all_calm_inside, tail_calm_inside, then_settled}
-use Rattle.expression_reading.specs.Operators.{Link, Ends, Left, Right, sign_of, link_at, link, top}
+use Rattle.expression_reading.specs.declared.operators.Link.{Link}
+use Rattle.expression_reading.specs.declared.operators.Link.TheVariants.{Ends, Left, Right}
+use Rattle.expression_reading.specs.Operators.{sign_of, link_at, link_of, top}
 use Rattle.expression_reading.specs.Reading.{is_word, is_dot, is_dot_terminal}
-use Rattle.expression_reading.specs.Wants.{Want, Operand, Chain, Steps, Called, Step, Args, MoreArgs, New, NewOpen, Bracket, Empty, Group, Second, Reach, Fields, Dot, Question, Name, Close, Comma, Semicolon, is_ready, after_name, group_starts, unary_starts, starts, goes_on, steps_on, calls, args_start, args_go_on, quantified, group_on, second_on, fields_on, question_on, reacts}
-use Rattle.expression_reading.specs.Ends.{some_token, want_token, chains, behind_name, want_behind, want_rank, is_calm}
+use Rattle.expression_reading.specs.Wants.{Want, Operand, Chain, Steps, Called, Step, Args, MoreArgs, New, NewOpen, Bracket, Empty, Group, Second, Reach, Fields, Dot, Question, Name, Close, Comma, Semicolon, is_ready, unary_starts, starts, goes_on, steps_on, calls, args_start, args_go_on, quantified, group_on, second_on, fields_on, reacts}
+use Rattle.expression_reading.specs.Ends.{want_token, chains, want_behind, want_rank, is_calm}
 
 quiet_sign : (x : Terminal) → is_quiet x ≡ true → sign_of x ≡ None
 quiet_sign terminal.Times is = absurd (cc)
@@ -237,7 +236,7 @@ module _ {W : Type 0} (inn : Want → W) where
 
     pub want_settles : (w : Want) (t : Token) → Settled calm (reacts inn w t)
     want_settles (Operand side n l) t = settles_starts side n l (at_side side t)
-    want_settles (Chain side n l) t = settles_goes_on side n l (link side n t)
+    want_settles (Chain side n l) t = settles_goes_on side n l (link_of side n t)
     want_settles (Steps side l) t = settles_steps side l (is_dot side t)
     want_settles (Called l) t = settles_calls l (at_side false t)
     want_settles (Step false l) t = settles_takes (is_name false t) (Called l ∷ []) refl

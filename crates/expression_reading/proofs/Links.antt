@@ -1,7 +1,7 @@
 -- What the operator behind an operand tells.
-use Rattle.std.proofs.Common.{◌≡◌, ℕ, ◌-◌, ◌<◌, ◌≤◌, ◌==◌, zero, suc, Bool, true, false, refl, sym, ◌∙◌, ap, subst, arith}
+use Rattle.std.proofs.Common.{◌≡◌, ℕ, ◌-◌, ◌==◌, suc, Bool, true, false, refl, sym, ◌∙◌, ap, arith}
 use Rattle.std.specs.Prelude.{Option, Some, None}
-use Rattle.std.proofs.lemmas.Bool.{eqb-true, eq-eqb, ne_eqb}
+use Rattle.std.proofs.lemmas.Bool.{eqb-true}
 use Rattle.java_lex.specs.declared.spelling.Terminal.{Terminal}
 use Rattle.java_lex.specs.declared.spelling.Terminal.TheVariants as terminal
 use Rattle.java_lex.specs.declared.token.Token.{Token}
@@ -11,9 +11,10 @@ use Rattle.java_tree.specs.Trees.{Expr, bin}
 use Rattle.java_tree.specs.Phrases.{letter}
 use Rattle.java_tree.specs.Expressions.{tier_of, terminal_of_sign, left_tier, right_tier, is_chain}
 use Rattle.reading_core.specs.Read.{at_side}
-use Rattle.reading_core.proofs.Runs.{when_true, when_false}
-use Rattle.reading_core.proofs.Tokens.{is_reserved, letter_at, at_letter}
-use Rattle.expression_reading.specs.Operators.{Link, Ends, Left, Right, sign_of, link_by, link_at, link}
+use Rattle.reading_core.proofs.Tokens.{is_reserved, letter_at}
+use Rattle.expression_reading.specs.declared.operators.Link.{Link}
+use Rattle.expression_reading.specs.declared.operators.Link.TheVariants.{Ends, Left, Right}
+use Rattle.expression_reading.specs.Operators.{sign_of, link_by, link_at, link_of}
 
 -- an expression is a chain of this tier
 abbrev pub is_of : ℕ → Expr → Bool
@@ -94,7 +95,7 @@ link_found n (Some r) k is some = by (tier_of r == suc (suc n)) refl is
     by false same so = absurd (some (sym so))
 
 -- an operator of a chain
-pub left_link : (side : Bool) (n : ℕ) (t : Token) (s : Sign) → link side n t ≡ Left s → LeftLink side n t s
+pub left_link : (side : Bool) (n : ℕ) (t : Token) (s : Sign) → link_of side n t ≡ Left s → LeftLink side n t s
 left_link side n t s is =
     let (r, found, tier, by) = link_found n (sign_of (at_side side t)) (Left s) is (λ no. cc) in
     let (same, plain) = link_by_left r s by in
@@ -129,7 +130,7 @@ left_link side n t s is =
     free sign.Iff = refl
 
 -- `==>`
-pub right_link : (side : Bool) (n : ℕ) (t : Token) → link side n t ≡ Right → (n ≡ 6) × (letter t ≡ (side, terminal.Implies))
+pub right_link : (side : Bool) (n : ℕ) (t : Token) → link_of side n t ≡ Right → (n ≡ 6) × (letter t ≡ (side, terminal.Implies))
 right_link side n t is =
     let (r, found, tier, by) = link_found n (sign_of (at_side side t)) Right is (λ no. cc) in
     let same = link_by_right r by in

@@ -1,23 +1,24 @@
 -- The machine does what reading does.
-use Rattle.std.proofs.Common.{◌≡◌, ℕ, ◌+◌, ◌<◌, zero, suc, Bool, true, false, List, [], ◌∷◌, ◌++◌, length, Option, Some, None, refl, sym, ◌∙◌, ap, arith, ◌⊎◌, inl, inr}
+use Rattle.std.proofs.Common.{◌≡◌, ℕ, ◌<◌, zero, suc, Bool, true, false, List, [], ◌∷◌, ◌++◌, length, Option, refl, sym, ◌∙◌, ap, arith}
 use Rattle.java_lex.specs.declared.spelling.Terminal.{Terminal}
 use Rattle.java_lex.specs.declared.spelling.Terminal.TheVariants as terminal
 use Rattle.java_lex.specs.declared.token.Token.{Token}
 use Rattle.java_lex.specs.declared.words.TheConstants.{HAS, INT_SIZE}
 use Rattle.java_tree.specs.declared.names.Ident.{Ident}
-use Rattle.java_tree.specs.Trees.{Expr, Exprs, none, also, quant, quant_in, has, size}
+use Rattle.java_tree.specs.Trees.{Expr, Exprs, none, also, has, size}
 use Rattle.java_tree.specs.Phrases.{ident_of}
-use Rattle.reading_core.specs.Read.{Read, Got, Bad, Deep, OnGot, ◌>>=◌, at_side, expect, is_name, is_open, is_close, is_comma, is_semicolon, is_close_terminal, is_comma_terminal, is_semicolon_terminal}
+use Rattle.reading_core.specs.Read.{Read, Got, Bad, OnGot, ◌>>=◌, at_side, expect, is_name, is_open, is_close, is_comma, is_semicolon, is_close_terminal, is_comma_terminal}
 use Rattle.reading_core.specs.Deeper.{Level, deeper, enclosed, bracket}
 use Rattle.reading_core.specs.Loops.{repeat}
-use Rattle.reading_core.specs.Machine.{Test, Act, Take, Open, Leave, Refuse, Step, On, OnOpen, Stop, Next, Fine, BadAt, DeepAt, IsStart, act, then_, takes_if, opens_if, step, run}
+use Rattle.reading_core.specs.Machine.{Test, Act, Take, Open, Leave, Refuse, Next, Fine, IsStart, act, then_, takes_if, opens_if, step, run}
 use Rattle.reading_core.specs.Follow.{follow, behind, Allows}
-use Rattle.reading_core.proofs.Runs.{tested, when_true, when_false}
 use Rattle.reading_core.proofs.Follows.{follow_bind, follow_same, follow_then, ends_early, ends_well, at_first, need_sim, then_act, deeper_sim, enclosed_sim, bracket_sim}
 use Rattle.reading_core.proofs.ReadLaws.{on_bind, on_weaken, on_expect, IsFirst, Short, repeat_sim}
-use Rattle.expression_reading.specs.Operators.{Link, Ends, Left, Right, link, top}
+use Rattle.expression_reading.specs.declared.operators.Link.{Link}
+use Rattle.expression_reading.specs.declared.operators.Link.TheVariants.{Ends, Left, Right}
+use Rattle.expression_reading.specs.Operators.{link_of, top}
 use Rattle.expression_reading.specs.Reading.{Below, Reach, exprs, link_in, chain_in, steps_in, argument_in, arguments_in, called_by, called_in, step_in, field_in, reach_in, is_word, is_dot, is_plus, is_dot_terminal, is_plus_terminal, first_is, question_in, second_by, second_in, quantified_in, paren_in, group_by, group_in, unary_by, unary_in, operand_in}
-use Rattle.expression_reading.specs.Wants.{Want, Operand, Chain, Steps, Called, Step as StepWant, Args, MoreArgs, New, NewOpen, Bracket, Empty, Group, Second, Reach as ReachWant, Fields, Dot, Question, Name, Close, Comma, Semicolon, is_ready, after_name, group_starts, unary_starts, starts, goes_on, steps_on, calls, args_start, args_go_on, quantified, group_on, second_on, fields_on, question_on, reacts}
+use Rattle.expression_reading.specs.Wants.{Want, Operand, Chain, Steps, Called, Step as StepWant, Args, MoreArgs, New, NewOpen, Bracket, Empty, Group, Second, Reach as ReachWant, Fields, Dot, Question, Name, Close, Comma, Semicolon, is_ready, after_name, group_starts, unary_starts, starts, goes_on, steps_on, calls, args_start, args_go_on, group_on, second_on, fields_on, reacts}
 
 module _ {W : Type 0} (inn : Want → W) where
   -- an operand takes its first token or refuses it
@@ -48,7 +49,7 @@ module _ {W : Type 0} (inn : Want → W) where
   is_start side (suc n) l x = then_is_start (starts inn side n l x) (inn (Chain side n l) ∷ []) (is_start side n l x)
 
 module _ {W : Type 0} (react : W → Token → Act W) (ready : W → Bool) (may : Test) (inn : Want → W) (reacts_so : (w : Want) (t : Token) → react (inn w) t ≡ reacts inn w t)
-  (ready_so : (w : Want) → ready (inn w) ≡ is_ready w) where
+    (ready_so : (w : Want) → ready (inn w) ≡ is_ready w) where
   -- the machine goes on with these
   abbrev pub on_with : {A : Type 0} → List W → A → List Token → Next
   on_with ws a rest = run react ready may rest ws
@@ -97,7 +98,7 @@ module _ {W : Type 0} (react : W → Token → Act W) (ready : W → Bool) (may 
 
     pub chain_sim : (n : ℕ) (e : Expr) (ts : List Token) (ws : List W) → follow (chain_in side level n e ts) (on_with ws) ≡ run react ready may ts (inn (Chain side n l) ∷ ws)
     chain_sim n e [] ws = well (Chain side n l) refl ws
-    chain_sim n e (t ∷ ts) ws = link_sim n e t ts ws (link side n t) ∙ first (Chain side n l) t ts ws
+    chain_sim n e (t ∷ ts) ws = link_sim n e t ts ws (link_of side n t) ∙ first (Chain side n l) t ts ws
 
     steps_by : (e : Expr) (t : Token) (ts : List Token) (ws : List W) (dot : Bool)
         → follow (elim dot as (λ _. Read Expr) [ true ↦ deeper level (t ∷ ts) ts (λ b. b.step e ts) | false ↦ Got e (t ∷ ts) ]) (on_with ws)
@@ -152,8 +153,9 @@ module _ {W : Type 0} (react : W → Token → Act W) (ready : W → Bool) (may 
 
     args_by : (x : Terminal) (t : Token) (ts : List Token) (ws : List W) → at_side false t ≡ x
         → follow (elim (is_close_terminal x) as (λ _. Read Exprs) [
-            true ↦ Got none (t ∷ ts)
-          | false ↦ b.operand (top false) (t ∷ ts) >>= (λ e rest. repeat (first_is (is_comma false)) (argument_in b) rest >>= (λ es rest'. Got (also e (exprs es)) rest')) ]) (λ _ rest. follow (expect (is_close false) rest) (on_with ws))
+          | true ↦ Got none (t ∷ ts)
+          | false ↦ b.operand (top false) (t ∷ ts) >>= (λ e rest. repeat (first_is (is_comma false)) (argument_in b) rest >>= (λ es rest'. Got (also e (exprs es)) rest'))
+        ]) (λ _ rest. follow (expect (is_close false) rest) (on_with ws))
         ≡ behind react ready may t ts (act (args_start inn l x) ws (step react ready t ws))
     args_by terminal.CloseParen t ts ws is = ap (λ x. follow (elim (is_close_terminal x) as (λ _. Read Token) [ true ↦ Got t ts | false ↦ Bad (t ∷ ts) ]) (on_with ws)) is
     args_by x t ts ws is =
@@ -335,11 +337,13 @@ module _ {W : Type 0} (react : W → Token → Act W) (ready : W → Bool) (may 
 
   question_sim_by : (l : ℕ) (level : Option (Level Below)) → Allows (IsSim true (suc l)) may (suc l) level → (at : ℕ) (r : Reach) (t : Token) (ts : List Token) (ws : List W) (is_has is_size : Bool)
       → follow (elim is_has as (λ _. Read Expr) [
-          true ↦ bracket true level ts (λ b rest. b.operand (top true) rest) >>= (λ e rest. Got (has at r.root r.kind r.fields e) rest)
-        | false ↦ elim is_size as (λ _. Read Expr) [ true ↦ bracket true level ts (λ b rest. Got (tt {0}) rest) >>= (λ _ rest. Got (size at r.root r.kind r.fields) rest) | false ↦ Bad (t ∷ ts) ] ]) (on_with ws)
+        | true ↦ bracket true level ts (λ b rest. b.operand (top true) rest) >>= (λ e rest. Got (has at r.root r.kind r.fields e) rest)
+        | false ↦ elim is_size as (λ _. Read Expr) [ true ↦ bracket true level ts (λ b rest. Got (tt {0}) rest) >>= (λ _ rest. Got (size at r.root r.kind r.fields) rest) | false ↦ Bad (t ∷ ts) ]
+      ]) (on_with ws)
       ≡ behind react ready may t ts (act (elim is_has as (λ _. Act W) [
-          true ↦ Take (inn (Bracket l) ∷ [])
-        | false ↦ elim is_size as (λ _. Act W) [ true ↦ Take (inn (Empty l) ∷ []) | false ↦ Refuse ] ]) ws (step react ready t ws))
+        | true ↦ Take (inn (Bracket l) ∷ [])
+        | false ↦ elim is_size as (λ _. Act W) [ true ↦ Take (inn (Empty l) ∷ []) | false ↦ Refuse ]
+      ]) ws (step react ready t ws))
   question_sim_by l level allows at r t ts ws true is_size = follow_bind (bracket true level ts (λ b rest. b.operand (top true) rest)) _ (on_with ws) ∙ bracketed_sim l level allows ts ws
   question_sim_by l level allows at r t ts ws false true =
       follow_bind (bracket true level ts (λ b rest. Got (tt {0}) rest)) _ (on_with ws) ∙ empty_sim true (Empty l) l level allows refl (λ t. refl) ts ws

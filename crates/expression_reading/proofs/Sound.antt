@@ -1,30 +1,30 @@
 -- What is read is of the grammar.
-use Rattle.std.proofs.Common.{◌≡◌, ℕ, ◌+◌, ◌<◌, ◌≤◌, ◌==◌, zero, suc, Bool, true, false, bytes_eq, List, [], ◌∷◌, length, refl, sym, ◌∙◌, ap, subst, arith, ◌⊎◌, inl, inr, lit≤}
-use Rattle.std.specs.Prelude.{Option, Some, None}
+use Rattle.std.proofs.Common.{◌≡◌, ℕ, ◌<◌, ◌≤◌, ◌==◌, zero, suc, Bool, true, false, bytes_eq, List, [], ◌∷◌, length, refl, sym, ◌∙◌, ap, subst, arith, ◌⊎◌, inl, inr, lit≤}
+use Rattle.std.specs.Prelude.{Option}
 use Rattle.std.proofs.lemmas.Bool.{eq-eqb, ne_eqb}
 use Rattle.std.proofs.lemmas.Slice.Eq.{bytes_eq-Decides}
 use Rattle.java_lex.specs.declared.spelling.Terminal.{Terminal}
 use Rattle.java_lex.specs.declared.spelling.Terminal.TheVariants as terminal
 use Rattle.java_lex.specs.declared.token.Token.{Token}
-use Rattle.java_lex.specs.declared.token.TokenKind.TheVariants.{Word, Number}
+use Rattle.java_lex.specs.declared.token.TokenKind.TheVariants.{Word}
 use Rattle.java_lex.specs.declared.words.TheConstants.{HAS, INT_SIZE}
 use Rattle.java_tree.specs.declared.expressions.Sign.{Sign}
-use Rattle.java_tree.specs.declared.expressions.Sign.TheVariants as sign
 use Rattle.java_tree.specs.declared.names.Ident.{Ident}
 use Rattle.java_tree.specs.Trees.{Expr, num, flag, null, this, outcome, make, named, call, read, call_on, paren, negation, minus, bin, old, quant, quant_in, has, size, Exprs, none, also}
 use Rattle.java_tree.specs.Phrases.{Phrase, ◌▸◌, letter, ident_of, text_of, one, name, opens, closed, nothing}
-use Rattle.java_tree.specs.Expressions.{phrase, arguments, more_arguments, more_fields, fields_of, bracketed, chained, is_steps, is_chain, left_tier, right_tier, whole, place, tier_of, quantifier, unary, post}
-use Rattle.reading_core.specs.Read.{Read, Got, Bad, Deep, OnGot, ◌>>=◌, at_side, expect, is_name, is_close, is_comma, is_semicolon, is_open, number_of}
+use Rattle.java_tree.specs.Expressions.{phrase, arguments, more_arguments, more_fields, fields_of, bracketed, chained, is_steps, is_chain, left_tier, whole, place, tier_of, quantifier, unary, post}
+use Rattle.reading_core.specs.Read.{Read, Got, Bad, OnGot, ◌>>=◌, at_side, expect, is_name, is_close, is_comma, is_semicolon, is_open}
 use Rattle.reading_core.specs.Deeper.{Level, deeper, enclosed, bracket}
 use Rattle.reading_core.specs.Loops.{repeat}
 use Rattle.reading_core.specs.Machine.{Test}
 use Rattle.reading_core.specs.Follow.{Allows}
 use Rattle.reading_core.specs.Exact.{Decided}
-use Rattle.reading_core.proofs.Runs.{tested, when_true, when_false}
 use Rattle.reading_core.proofs.ReadLaws.{on_bind, on_weaken, on_expect, on_deeper, IsFirst, Short, on_repeat}
-use Rattle.reading_core.proofs.Tokens.{letter_at, at_letter, name_letter, open_letter, close_letter, comma_letter, semicolon_letter, name_kind, number_kind, letter_terminal}
+use Rattle.reading_core.proofs.Tokens.{letter_at, name_letter, open_letter, close_letter, comma_letter, semicolon_letter, name_kind, number_kind, letter_terminal}
 use Rattle.reading_core.proofs.Keeps.{phrase_keeps, shorter}
-use Rattle.expression_reading.specs.Operators.{Link, Ends, Left, Right, link, top}
+use Rattle.expression_reading.specs.declared.operators.Link.{Link}
+use Rattle.expression_reading.specs.declared.operators.Link.TheVariants.{Ends, Left, Right}
+use Rattle.expression_reading.specs.Operators.{link_of, top}
 use Rattle.expression_reading.specs.Reading.{Below, Reach, exprs, link_in, chain_in, steps_in, argument_in, arguments_in, called_by, called_in, step_in, field_in, reach_in, is_word, is_dot, is_plus, is_dot_terminal, is_plus_terminal, first_is, question_in, second_by, second_in, quantified_in, paren_in, group_by, group_in, unary_by, unary_in, operand_in}
 use Rattle.expression_reading.proofs.Links.{is_of, LeftLink, left_link, right_link}
 
@@ -132,7 +132,7 @@ module _ (may : Test) where
   module _ (side : Bool) (l : ℕ) (level : Option (Level Below)) (allows : Allows (IsSound side (suc l)) may (suc l) level) where
     -- CHAINS AND STEPS
 
-    link_sound : (n : ℕ) (e : Expr) (l0 : ℕ) (ts0 : List Token) (t : Token) (ts : List Token) → IsPart n e side l0 ts0 l (t ∷ ts) → (k : Link) → link side n t ≡ k
+    link_sound : (n : ℕ) (e : Expr) (l0 : ℕ) (ts0 : List Token) (t : Token) (ts : List Token) → IsPart n e side l0 ts0 l (t ∷ ts) → (k : Link) → link_of side n t ≡ k
         → OnGot (Some_ side (suc (suc n)) l0 ts0) (link_in level n e t ts k)
     link_sound n e l0 ts0 t ts part Ends is = part_whole n e side l0 ts0 l (t ∷ ts) part
     link_sound n e l0 ts0 t ts part (Left s) is =
@@ -166,8 +166,7 @@ module _ (may : Test) where
     link_sound n e l0 ts0 t ts part Right is =
         let (six, letter_is) = right_link side n t is in
         on_deeper _ (IsSound side (suc l)) may (suc l) level (t ∷ ts) ts _ allows (λ b good opened.
-        on_bind (Some_ side (suc (suc n)) (suc l) ts) _ (b.operand (suc n) ts) _ (good.operand (suc n) ts) (λ right rest x.
-        (
+        on_bind (Some_ side (suc (suc n)) (suc l) ts) _ (b.operand (suc n) ts) _ (good.operand (suc n) ts) (λ right rest x. (
           suc l,
           (
             omega (arith, six),
@@ -189,7 +188,7 @@ module _ (may : Test) where
 
     pub chain_sound : (n : ℕ) (e : Expr) (l0 : ℕ) (ts0 ts : List Token) → IsPart n e side l0 ts0 l ts → OnGot (Some_ side (suc (suc n)) l0 ts0) (chain_in side level n e ts)
     chain_sound n e l0 ts0 [] part = part_whole n e side l0 ts0 l [] part
-    chain_sound n e l0 ts0 (t ∷ ts) part = link_sound n e l0 ts0 t ts part (link side n t) refl
+    chain_sound n e l0 ts0 (t ∷ ts) part = link_sound n e l0 ts0 t ts part (link_of side n t) refl
 
     steps_by : (e : Expr) (l0 : ℕ) (ts0 : List Token) (t : Token) (ts : List Token) → IsStepped e side l0 ts0 l (t ∷ ts) → (dot : Bool) → is_dot side t ≡ dot
         → OnGot (Some_ side unary l0 ts0) (elim dot as (λ _. Read Expr) [ true ↦ deeper level (t ∷ ts) ts (λ b. b.step e ts) | false ↦ Got e (t ∷ ts) ])
@@ -239,8 +238,9 @@ module _ (may : Test) where
 
     args_by : (ts : List Token) (closes : Bool)
         → OnGot (λ es rest. IsInside es l ts l rest) (elim closes as (λ _. Read Exprs) [
-            true ↦ Got none ts
-          | false ↦ b.operand (top false) ts >>= (λ e rest. repeat (first_is (is_comma false)) (argument_in b) rest >>= (λ es rest'. Got (also e (exprs es)) rest')) ])
+          | true ↦ Got none ts
+          | false ↦ b.operand (top false) ts >>= (λ e rest. repeat (first_is (is_comma false)) (argument_in b) rest >>= (λ es rest'. Got (also e (exprs es)) rest'))
+        ])
     args_by ts true = (refl, refl)
     args_by ts false =
         on_bind (Some_ false 7 l ts) _ (b.operand (top false) ts) _ (good.operand (top false) ts) (λ e rest x.
@@ -322,8 +322,7 @@ module _ (may : Test) where
         → Some_ true 9 (suc l) r3 e (v ∷ vs) → at_side true v ≡ x → OnGot (Some_ true unary l (t ∷ u ∷ ts)) (second_by x b t.from all (ident_of kind) (ident_of i) e v vs)
     second_sound_by ts opened terminal.Semicolon kind i s e r1 r2 r3 v vs kind_is one_ i_is two s_is three y is =
         on_bind (Some_ true 9 (suc l) vs) _ (b.operand (top true) vs) _ (good.operand (top true) vs) (λ body rest z.
-        on_bind (IsFirst (is_close true) rest) _ (expect (is_close true) rest) _ (on_expect (is_close true) rest) (λ w rest' closes.
-        (
+        on_bind (IsFirst (is_close true) rest) _ (expect (is_close true) rest) _ (on_expect (is_close true) rest) (λ w rest' closes. (
           l,
           (
             refl,
@@ -337,21 +336,20 @@ module _ (may : Test) where
             ),
           ),
         )))
-    second_sound_by ts opened terminal.CloseParen kind i s e r1 r2 r3 v vs kind_is one_ i_is two s_is three y is =
+    second_sound_by ts opened terminal.CloseParen kind i s e r1 r2 r3 v vs kind_is one_ i_is two s_is three y is = (
+      l,
+      (
+        refl,
         (
-          l,
+          lit≤ tt,
           (
+            suc l,
+            (l, u ∷ ts, (t, (t_is, refl), refl, refl), (suc l, u ∷ ts, (refl, opened, refl), (suc l, ts, (u, u_is, refl, refl), (suc l, r1, (kind, (kind_is, refl), one_, refl), (suc l, r2, (i, (i_is, refl), two, refl), (suc l, r3, (s, s_is, three, refl), (suc l, v ∷ vs, (y.0, y.1, refl), (v, letter_at true v terminal.CloseParen is refl, refl, refl)))))))),
             refl,
-            (
-              lit≤ tt,
-              (
-                suc l,
-                (l, u ∷ ts, (t, (t_is, refl), refl, refl), (suc l, u ∷ ts, (refl, opened, refl), (suc l, ts, (u, u_is, refl, refl), (suc l, r1, (kind, (kind_is, refl), one_, refl), (suc l, r2, (i, (i_is, refl), two, refl), (suc l, r3, (s, s_is, three, refl), (suc l, v ∷ vs, (y.0, y.1, refl), (v, letter_at true v terminal.CloseParen is refl, refl, refl)))))))),
-                refl,
-              ),
-            ),
           ),
-        )
+        ),
+      ),
+    )
     second_sound_by ts opened x kind i s e r1 r2 r3 v vs kind_is one_ i_is two s_is three y is = tt {0}
 
     second_sound : (ts : List Token) → Decided may (suc l) (u ∷ ts) → (kind i s : Token) (e : Expr) (r1 r2 r3 r4 : List Token)
@@ -430,11 +428,12 @@ module _ (may : Test) where
 
   -- what is asked of a reach
   module _ (l : ℕ) (level : Option (Level Below)) (allows : Allows (IsSound true (suc l)) may (suc l) level) (t d : Token) (ts dots : List Token) (r : Reach)
-    (t_is : letter t ≡ (true, terminal.Reach)) (d_is : letter d ≡ (true, terminal.Dot)) (reach_is : bracketed (Decided may) true (IsReach r) l ts l (d ∷ dots)) where
+      (t_is : letter t ≡ (true, terminal.Reach)) (d_is : letter d ≡ (true, terminal.Dot)) (reach_is : bracketed (Decided may) true (IsReach r) l ts l (d ∷ dots)) where
     question_by : (u : Token) (us : List Token) → dots ≡ u ∷ us → (is_has is_size : Bool) → is_word HAS.now u ≡ is_has → is_word INT_SIZE.now u ≡ is_size
         → OnGot (Some_ true unary l (t ∷ ts)) (elim is_has as (λ _. Read Expr) [
-            true ↦ bracket true level us (λ b rest. b.operand (top true) rest) >>= (λ e rest. Got (has t.from r.root r.kind r.fields e) rest)
-          | false ↦ elim is_size as (λ _. Read Expr) [ true ↦ bracket true level us (λ b rest. Got (tt {0}) rest) >>= (λ _ rest. Got (size t.from r.root r.kind r.fields) rest) | false ↦ Bad (u ∷ us) ] ])
+          | true ↦ bracket true level us (λ b rest. b.operand (top true) rest) >>= (λ e rest. Got (has t.from r.root r.kind r.fields e) rest)
+          | false ↦ elim is_size as (λ _. Read Expr) [ true ↦ bracket true level us (λ b rest. Got (tt {0}) rest) >>= (λ _ rest. Got (size t.from r.root r.kind r.fields) rest) | false ↦ Bad (u ∷ us) ]
+        ])
     question_by u us parts true is_size so so' =
         on_bind (λ e rest. bracketed (Decided may) true (closed (Is e true (whole true))) l us l rest) _ (bracket true level us (λ b rest. b.operand (top true) rest)) _
         (bracket_sound true l level allows (λ e. closed (Is e true (whole true))) (λ b rest. b.operand (top true) rest)

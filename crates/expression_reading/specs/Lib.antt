@@ -2,3 +2,4 @@ pub mod Operators
 pub mod Reading
 pub mod Wants
 pub mod Ends
+pub mod Levels

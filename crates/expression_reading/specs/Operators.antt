@@ -1,5 +1,5 @@
 -- The operators of expressions, as a chain finds them.
-use Rattle.std.specs.Prelude.{◌≡◌, ℕ, zero, suc, Bool, true, false, ◌==◌, Option, Some, None}
+use Rattle.std.specs.Prelude.{ℕ, suc, Bool, true, false, ◌==◌, Option, Some, None}
 use Rattle.java_lex.specs.declared.spelling.Terminal.{Terminal}
 use Rattle.java_lex.specs.declared.spelling.Terminal.TheVariants as terminal
 use Rattle.java_lex.specs.declared.token.Token.{Token}
@@ -7,6 +7,8 @@ use Rattle.java_tree.specs.declared.expressions.Sign.{Sign}
 use Rattle.java_tree.specs.declared.expressions.Sign.TheVariants.{Add, Sub, Mul, Eq, Ne, Lt, Le, Gt, Ge, And, Or, Implies, Iff}
 use Rattle.java_tree.specs.Expressions.{tier_of}
 use Rattle.reading_core.specs.Read.{at_side}
+use Rattle.expression_reading.specs.declared.operators.Link.{Link}
+use Rattle.expression_reading.specs.declared.operators.Link.TheVariants.{Ends, Left, Right}
 
 -- the operator that a token is
 abbrev pub sign_of : Terminal → Option Sign
@@ -25,15 +27,7 @@ sign_of terminal.Implies = Some Implies
 sign_of terminal.Iff = Some Iff
 sign_of x = None
 
--- How an operand goes on.
-pub data Link : Type 0 where
-  -- not at all
-  Ends : Link
-  -- by an operator of a chain, which associates to the left
-  Left : Sign → Link
-  -- by `==>`, which associates to the right
-  Right : Link
-
+-- how an operand goes on by the operator
 abbrev pub link_by : Sign → Link
 link_by Mul = Left Mul
 link_by Add = Left Add
@@ -55,8 +49,8 @@ abbrev pub link_at : ℕ → Option Sign → Link
 link_at n None = Ends
 link_at n (Some s) = elim (tier_of s == suc (suc n)) [ true ↦ link_by s | false ↦ Ends ]
 
-abbrev pub link : Bool → ℕ → Token → Link
-link side n t = link_at n (sign_of (at_side side t))
+abbrev pub link_of : Bool → ℕ → Token → Link
+link_of side n t = link_at n (sign_of (at_side side t))
 
 -- the number of a whole expression: of code, and of a clause
 abbrev pub top : Bool → ℕ

@@ -1,10 +1,9 @@
 -- Reading expressions of code (side false) and of clauses (true), by what the first token of each part is.
-use Rattle.std.specs.Prelude.{◌≡◌, ℕ, zero, suc, Bool, true, false, bytes_eq, List, [], ◌∷◌, Option, Some, None}
+use Rattle.std.specs.Prelude.{ℕ, zero, suc, Bool, true, false, bytes_eq, List, [], ◌∷◌, Option, Some, None}
 use Rattle.java_lex.specs.declared.spelling.Terminal.{Terminal}
 use Rattle.java_lex.specs.declared.spelling.Terminal.TheVariants as terminal
 use Rattle.java_lex.specs.declared.token.Token.{Token}
 use Rattle.java_lex.specs.declared.words.TheConstants.{HAS, INT_SIZE}
-use Rattle.java_tree.specs.declared.expressions.Sign.{Sign}
 use Rattle.java_tree.specs.declared.expressions.Sign.TheVariants.{Implies}
 use Rattle.java_tree.specs.declared.names.Ident.{Ident}
 use Rattle.java_tree.specs.Trees.{Expr, num, flag, null, this, outcome, make, named, call, read, call_on, paren, negation, minus, bin, old, quant, quant_in, has, size, Exprs, none, also}
@@ -13,7 +12,9 @@ use Rattle.java_tree.specs.Expressions.{place}
 use Rattle.reading_core.specs.Read.{Read, Got, Bad, ◌>>=◌, at_side, expect, number_of, is_name, is_comma, is_semicolon, is_close}
 use Rattle.reading_core.specs.Deeper.{Level, deeper, enclosed, bracket}
 use Rattle.reading_core.specs.Loops.{repeat}
-use Rattle.expression_reading.specs.Operators.{Link, Ends, Left, Right, link, top}
+use Rattle.expression_reading.specs.declared.operators.Link.{Link}
+use Rattle.expression_reading.specs.declared.operators.Link.TheVariants.{Ends, Left, Right}
+use Rattle.expression_reading.specs.Operators.{link_of, top}
 
 -- What is read one level deeper.
 pub record Below : Type 0 where
@@ -63,7 +64,7 @@ link_in level n e t ts Right = deeper level (t ∷ ts) ts (λ b. b.operand (suc 
 
 abbrev pub chain_in : Bool → Option (Level Below) → ℕ → Expr → List Token → Read Expr
 chain_in side level n e [] = Got e []
-chain_in side level n e (t ∷ ts) = link_in level n e t ts (link side n t)
+chain_in side level n e (t ∷ ts) = link_in level n e t ts (link_of side n t)
 
 -- { "." Step }
 abbrev pub steps_in : Bool → Option (Level Below) → Expr → List Token → Read Expr

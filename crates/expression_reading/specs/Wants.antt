@@ -1,13 +1,15 @@
 -- What is awaited within an expression, and what it does at a token. The numbers are levels, counted from 0.
-use Rattle.std.specs.Prelude.{◌≡◌, ℕ, zero, suc, Bool, true, false, List, [], ◌∷◌, ◌++◌}
+use Rattle.std.specs.Prelude.{ℕ, zero, suc, Bool, true, false, List, [], ◌∷◌}
 use Rattle.java_lex.specs.declared.spelling.Terminal.{Terminal}
 use Rattle.java_lex.specs.declared.spelling.Terminal.TheVariants as terminal
 use Rattle.java_lex.specs.declared.token.Token.{Token}
 use Rattle.java_lex.specs.declared.words.TheConstants.{HAS, INT_SIZE}
 use Rattle.reading_core.specs.Read.{at_side, is_name, is_open, is_close, is_comma, is_semicolon}
 use Rattle.reading_core.specs.Machine.{Act, Take, Open, Leave, Refuse, then_, takes_if, opens_if}
-use Rattle.expression_reading.specs.Operators.{Link, Ends, Left, Right, link, top}
-use Rattle.expression_reading.specs.Reading.{is_word, is_dot, is_plus}
+use Rattle.expression_reading.specs.declared.operators.Link.{Link}
+use Rattle.expression_reading.specs.declared.operators.Link.TheVariants.{Ends, Left, Right}
+use Rattle.expression_reading.specs.Operators.{link_of, top}
+use Rattle.expression_reading.specs.Reading.{is_word, is_dot}
 
 pub data Want : Type 0 where
   -- an operand: its side, its number, its level
@@ -135,7 +137,7 @@ module _ {W : Type 0} (inn : Want → W) where
   -- what is awaited at a token
   abbrev pub reacts : Want → Token → Act W
   reacts (Operand side n l) t = starts side n l (at_side side t)
-  reacts (Chain side n l) t = goes_on side n l (link side n t)
+  reacts (Chain side n l) t = goes_on side n l (link_of side n t)
   reacts (Steps side l) t = steps_on side l (is_dot side t)
   reacts (Called l) t = calls l (at_side false t)
   reacts (Step side l) t = takes_if (is_name side t) (after_name side l ∷ [])

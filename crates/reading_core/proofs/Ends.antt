@@ -1,8 +1,8 @@
 -- What begins a text is brought to its end.
-use Rattle.std.proofs.Common.{◌≡◌, ℕ, ◌+◌, ◌<◌, ◌≤◌, zero, suc, Bool, true, false, ◌&&◌, nat_le, max, List, [], ◌∷◌, ◌++◌, length, refl, sym, ◌∙◌, ap, subst, arith, ◌⊎◌, inl, inr, append_assoc}
+use Rattle.std.proofs.Common.{◌≡◌, ℕ, ◌+◌, ◌<◌, ◌≤◌, zero, suc, Bool, true, false, nat_le, List, [], ◌∷◌, ◌++◌, length, refl, sym, ◌∙◌, ap, subst, arith, ◌⊎◌, inl, inr}
 use Rattle.std.proofs.lemmas.Bool.{le-leb}
 use Rattle.java_lex.specs.declared.token.Token.{Token}
-use Rattle.reading_core.specs.Machine.{Test, Act, Take, Open, Leave, Refuse, Step, On, OnOpen, Stop, Next, Fine, BadAt, DeepAt, act, step, all_ready, run}
+use Rattle.reading_core.specs.Machine.{Test, Act, Take, Open, Leave, Refuse, Step, On, OnOpen, Stop, Fine, DeepAt, act, step, all_ready, run}
 use Rattle.reading_core.specs.Follow.{behind}
 use Rattle.reading_core.specs.Endings.{Endings, Settled, Takes, all_calm, tail_calm, ranks}
 use Rattle.reading_core.proofs.Runs.{tested, when_true, when_false, fine_free}
@@ -84,7 +84,7 @@ module _ {W : Type 0} (react : W → Token → Act W) (ready : W → Bool) (E : 
           let falls : ranks E.rank (E.behind w) < E.rank w = E.falls w not in
           let le : E.rank w + ranks E.rank ws < suc n = low in
           let go = ih (E.behind w ++ ws) (omega (arith, falls, le, ranks-append E.rank (E.behind w) ws))
-              (tail_append E.calm (E.behind w) ws (settled_of w (E.behind w) (react w (E.token w)) (E.takes w not) (E.settles w (E.token w))) calm) in
+          (tail_append E.calm (E.behind w) ws (settled_of w (E.behind w) (react w (E.token w)) (E.takes w not) (E.settles w (E.token w))) calm) in
           (E.token w ∷ go.0, took may all (E.token w) go.0 ws (E.behind w) (step react ready (E.token w) ws) (react w (E.token w)) (E.takes w not) go.1, λ are. E.quiets w not (calm_head E.calm w ws are))
 
   finish_by : (may : Test) → All_ may → (n : ℕ) (ws : List W) → ranks E.rank ws < n → tail_calm E.calm ws ≡ true → Finish may ws
@@ -129,14 +129,15 @@ module _ {W : Type 0} (react : W → Token → Act W) (ready : W → Bool) (E : 
       }
   complete_by may t front ws ih c (OnOpen k vs) is calm fine =
       elim (tested (may k front)) [
-        inl opens ↦
-          let go = ih vs c calm (sym (when_true (may k front) _ _ opens) ∙ fine) in
-          record {
-            more = go.more;
-            fine = λ wide wider free.
-                ap (behind react ready wide t (front ++ go.more)) is ∙ when_true (wide k (front ++ go.more)) _ _ (wider k front (front ++ go.more) opens) ∙ go.fine wide wider free;
-          }
-      | inr not ↦ let no : DeepAt (t ∷ front) ≡ Fine c = sym (when_false (may k front) _ _ not) ∙ fine in absurd (cc) ]
+        | inl opens ↦
+            let go = ih vs c calm (sym (when_true (may k front) _ _ opens) ∙ fine) in
+            record {
+              more = go.more;
+              fine = λ wide wider free.
+                  ap (behind react ready wide t (front ++ go.more)) is ∙ when_true (wide k (front ++ go.more)) _ _ (wider k front (front ++ go.more) opens) ∙ go.fine wide wider free;
+            }
+        | inr not ↦ let no : DeepAt (t ∷ front) ≡ Fine c = sym (when_false (may k front) _ _ not) ∙ fine in absurd (cc)
+      ]
   complete_by may t front ws ih c Stop is calm fine = absurd (cc)
 
   pub complete : (may : Test) (front : List Token) (ws : List W) (c : Bool) → tail_calm E.calm ws ≡ true → run react ready may front ws ≡ Fine c → Completes may front ws
@@ -167,8 +168,9 @@ module _ {W : Type 0} (react : W → Token → Act W) (ready : W → Bool) where
       same d le is =
           let equal : capped d may k ts ≡ may k ts = when_true (nat_le k d) _ _ (le-leb k d le) in
           elim (tested (may k ts)) [
-            inl opens ↦ when_true (capped d may k ts) _ _ (equal ∙ opens) ∙ is ∙ sym (when_true (may k ts) _ _ opens)
-          | inr not ↦ when_false (capped d may k ts) _ _ (equal ∙ not) ∙ sym (when_false (may k ts) _ _ not) ]
+            | inl opens ↦ when_true (capped d may k ts) _ _ (equal ∙ opens) ∙ is ∙ sym (when_true (may k ts) _ _ opens)
+            | inr not ↦ when_false (capped d may k ts) _ _ (equal ∙ not) ∙ sym (when_false (may k ts) _ _ not)
+          ]
   cap_by may t ts ih Stop = (0, λ d le. refl)
 
   -- on given tokens a run opens levels up to some one

@@ -1,15 +1,14 @@
 -- Where a machine stops is the first token at fault.
-use Rattle.std.proofs.Common.{◌≡◌, ℕ, ◌+◌, ◌<◌, ◌≤◌, suc, Bool, true, false, nat_le, nat_lt, ◌||◌, List, [], ◌∷◌, ◌++◌, length, refl, sym, ◌∙◌, ap, subst, arith, ◌⊎◌, inl, inr, append_assoc}
+use Rattle.std.proofs.Common.{◌≡◌, ℕ, ◌<◌, ◌≤◌, suc, Bool, true, false, nat_le, List, [], ◌∷◌, ◌++◌, length, refl, sym, ◌∙◌, arith, ◌⊎◌, inl, inr}
 use Rattle.std.proofs.lemmas.Bool.{le-leb, leb-true}
 use Rattle.java_lex.specs.declared.token.Token.{Token}
-use Rattle.java_tree.specs.Phrases.{Limit}
 use Rattle.java_tree.specs.Reading.{Limited, Parses, within, any_level, within_before, Begins, BeginsWithin, FirstFault, FirstWrong, FirstDeep}
 use Rattle.java_tree.proofs.Fronts.{Grows, parses_more}
 use Rattle.reading_core.specs.Machine.{Test, Act, Next, Fine, BadAt, DeepAt, run}
 use Rattle.reading_core.specs.Exact.{Decided, up_to_64, Reads}
 use Rattle.reading_core.specs.Endings.{Endings}
-use Rattle.reading_core.proofs.Runs.{tested, when_true, when_false, front_fine, bad_wider, fine_free, Stops, Plain, bad_stops, deep_stops, deep_over}
-use Rattle.reading_core.proofs.Ends.{Completes, complete}
+use Rattle.reading_core.proofs.Runs.{tested, when_true, when_false, front_fine, bad_wider, Stops, Plain, bad_stops, deep_stops, deep_over}
+use Rattle.reading_core.proofs.Ends.{complete}
 
 -- levels up to 64, and all that the last tokens open
 abbrev before : ℕ → Test
@@ -33,8 +32,9 @@ from_before : (last k : ℕ) (us : List Token) → within_before last k us → b
 from_before last k us (inl low) = when_true (nat_le k 64) _ _ (le-leb k 64 low)
 from_before last k us (inr less) =
     elim (tested (nat_le k 64)) [
-      inl low ↦ when_true (nat_le k 64) _ _ low
-    | inr not ↦ when_false (nat_le k 64) _ _ not ∙ le-leb (suc (length us)) last (omega arith) ]
+      | inl low ↦ when_true (nat_le k 64) _ _ low
+      | inr not ↦ when_false (nat_le k 64) _ _ not ∙ le-leb (suc (length us)) last (omega arith)
+    ]
 
 before_low : (last k : ℕ) (us vs : List Token) → up_to_64 k us ≡ true → before last k vs ≡ true
 before_low last k us vs is = when_true (nat_le k 64) _ _ is
@@ -45,8 +45,9 @@ before_last last k us less = from_before last k us (inr less)
 low_of : (last k : ℕ) (us : List Token) → last ≤ length us → before last k us ≡ true → nat_le k 64 ≡ true
 low_of last k us le is =
     elim (tested (nat_le k 64)) [
-      inl low ↦ low
-    | inr not ↦ let less : suc (length us) ≤ last = leb-true (suc (length us)) last (sym (when_false (nat_le k 64) _ _ not) ∙ is) in absurd (omega arith) ]
+      | inl low ↦ low
+      | inr not ↦ let less : suc (length us) ≤ last = leb-true (suc (length us)) last (sym (when_false (nat_le k 64) _ _ not) ∙ is) in absurd (omega arith)
+    ]
 
 module _ {W : Type 0} (react : W → Token → Act W) (ready : W → Bool) (start : W) (p : Limited) (E : Endings react ready) (grows : Grows p) (reads : Reads react ready start p) where
   begins_within : (front : List Token) (c : Bool) → run react ready up_to_64 front (start ∷ []) ≡ Fine c → BeginsWithin p front

@@ -3,9 +3,9 @@ use Rattle.std.proofs.Common.{◌≡◌, ℕ, Bool, true, false, List, [], ◌�
 use Rattle.java_lex.specs.declared.token.Token.{Token}
 use Rattle.reading_core.specs.Read.{Read, Got, Bad, Deep, ◌>>=◌, expect, is_open, is_close}
 use Rattle.reading_core.specs.Deeper.{Level, deeper, enclosed, bracket}
-use Rattle.reading_core.specs.Machine.{Test, Act, Take, Open, Leave, Refuse, Step, On, OnOpen, Stop, Next, Fine, BadAt, DeepAt, act, then_, takes_if, opens_if, IsStart, step, all_ready, run}
+use Rattle.reading_core.specs.Machine.{Test, Act, Take, Open, Leave, Refuse, Step, On, OnOpen, Next, Fine, act, then_, takes_if, opens_if, IsStart, step, run}
 use Rattle.reading_core.specs.Follow.{follow, behind, Allows}
-use Rattle.reading_core.proofs.Runs.{tested, when_true, when_false}
+use Rattle.reading_core.proofs.Runs.{when_true, when_false}
 
 pub follow_bind : {A B : Type 0} (r : Read A) (f : A → List Token → Read B) (go_on : B → List Token → Next) → follow (r >>= f) go_on ≡ follow r (λ a rest. follow (f a rest) go_on)
 follow_bind (Got a rest) f go_on = refl

@@ -1,7 +1,6 @@
 -- Endings of what is awaited in a part of a larger machine.
-use Rattle.std.proofs.Common.{◌≡◌, ℕ, ◌+◌, Bool, true, false, List, [], ◌∷◌, ◌++◌, map, refl, sym, ◌∙◌, ap, arith}
+use Rattle.std.proofs.Common.{◌≡◌, ℕ, Bool, true, false, List, [], ◌∷◌, map, refl, ◌∙◌, arith}
 use Rattle.java_lex.specs.declared.spelling.Terminal.{Terminal}
-use Rattle.java_lex.specs.declared.spelling.Terminal.TheVariants as terminal
 use Rattle.java_lex.specs.declared.token.Token.{Token}
 use Rattle.java_lex.specs.Terminals.{terminal_of}
 use Rattle.reading_core.specs.Read.{on, at_side}

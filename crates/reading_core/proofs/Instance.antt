@@ -1,13 +1,13 @@
 -- What a definition of reading owes, and what follows: its machine takes the phrases of the grammar to their end, and
 -- a list of tokens is one of them at most.
-use Rattle.std.proofs.Common.{◌≡◌, ℕ, ◌+◌, ◌-◌, ◌<◌, ◌≤◌, suc, Bool, true, false, nat_le, List, [], ◌∷◌, length, refl, sym, ◌∙◌, ap, subst, arith, ◌⊎◌, inl, inr}
-use Rattle.std.proofs.lemmas.Bool.{le-leb, leb-true, lt-leb}
+use Rattle.std.proofs.Common.{◌≡◌, ℕ, ◌+◌, ◌-◌, ◌≤◌, Bool, true, false, nat_le, List, [], ◌∷◌, length, refl, sym, ◌∙◌, ap, arith}
+use Rattle.std.proofs.lemmas.Bool.{le-leb, lt-leb}
 use Rattle.java_lex.specs.declared.token.Token.{Token}
 use Rattle.java_tree.specs.Phrases.{Phrase, Limit}
-use Rattle.java_tree.specs.Reading.{Limited, Parses, any_level, within}
+use Rattle.java_tree.specs.Reading.{Limited, Parses, any_level}
 use Rattle.java_tree.proofs.Fronts.{Grows, parses_more}
 use Rattle.reading_core.specs.Read.{Read, Got, Bad, Deep, OnGot}
-use Rattle.reading_core.specs.Machine.{Test, Act, Next, Fine, BadAt, DeepAt, run}
+use Rattle.reading_core.specs.Machine.{Test, Act, Fine, run}
 use Rattle.reading_core.specs.Follow.{follow}
 use Rattle.reading_core.specs.Exact.{Decided, Counts, Reads}
 use Rattle.reading_core.proofs.Runs.{when_true, when_false}
@@ -62,9 +62,9 @@ module _ {W A : Type 0} (react : W → Token → Act W) (ready : W → Bool) (st
     one_tree ts a b j k x y =
         let every : Test = λ k us. true in
         let left : (c : A) (k : ℕ) → q any_level c 0 ts k [] → q (Decided every) c 0 ts k []
-            = λ c k z. ((owes.keeps (length ts) any_level (Decided every) (λ k us le may. refl) c).keep 0 ts k [] (omega arith) z).0 in
+        = λ c k z. ((owes.keeps (length ts) any_level (Decided every) (λ k us le may. refl) c).keep 0 ts k [] (omega arith) z).0 in
         let same : Got a [] ≡ Got b []
-            = sym (read_with every ts a j (length ts) (omega arith) (left a j x)) ∙ read_with every ts b k (length ts) (omega arith) (left b k y) in
+        = sym (read_with every ts a j (length ts) (omega arith) (left a j x)) ∙ read_with every ts b k (length ts) (omega arith) (left b k y) in
         cc
 
     at_end : (test : Test) (ts : List Token) (r : Read A) → OnGot (λ a rest. (k : ℕ) × q (Decided test) a 0 ts k rest) r → follow r (λ _ rest. run react ready test rest []) ≡ Fine true

@@ -1,10 +1,10 @@
 -- Each token opens one level at most: what is read of a list of tokens opens no level beyond their number, and it
 -- leaves fewer tokens.
-use Rattle.std.proofs.Common.{◌≡◌, ℕ, ◌+◌, ◌<◌, ◌≤◌, zero, suc, Bool, true, false, List, [], ◌∷◌, ◌++◌, length, inl, inr, ap, arith}
+use Rattle.std.proofs.Common.{ℕ, ◌+◌, ◌<◌, ◌≤◌, suc, Bool, true, false, List, [], ◌∷◌, length, ap, arith}
 use Rattle.java_lex.specs.declared.token.Token.{Token}
 use Rattle.java_tree.specs.declared.names.Ident.{Ident}
 use Rattle.java_tree.specs.Trees.{Expr, num, flag, null, this, outcome, make, named, call, read, call_on, paren, negation, minus, bin, old, quant, quant_in, has, size, Exprs, none, also}
-use Rattle.java_tree.specs.Phrases.{Phrase, Limit, ◌▸◌, nothing, either, where_, token, opens, closed}
+use Rattle.java_tree.specs.Phrases.{Phrase, Limit, ◌▸◌, nothing, where_, token, opens, closed}
 use Rattle.java_tree.specs.Expressions.{phrase, arguments, more_arguments, more_fields, fields_of, bracketed, chained, is_steps, is_chain, left_tier, right_tier, whole, expression, predicate, unary, post}
 
 -- Each phrase of the one kind is one of the other, where levels and tokens left come up to the bound at most, with

@@ -1,5 +1,5 @@
 -- The parts of a phrase, where it begins with one token, a level or a closed phrase.
-use Rattle.std.proofs.Common.{◌≡◌, ℕ, suc, List, [], ◌∷◌, sym, subst, ap}
+use Rattle.std.proofs.Common.{◌≡◌, ℕ, suc, List, ◌∷◌, subst}
 use Rattle.java_lex.specs.declared.token.Token.{Token}
 use Rattle.java_tree.specs.Phrases.{Phrase, Limit, ◌▸◌, token, opens, closed}
 

@@ -1,5 +1,5 @@
 -- Laws of what reading gives.
-use Rattle.std.proofs.Common.{◌≡◌, ℕ, ◌<◌, zero, suc, Bool, true, false, List, [], ◌∷◌, length, Option, Some, None, refl, sym, ◌∙◌, ap, subst, arith, ◌⊎◌, inl, inr}
+use Rattle.std.proofs.Common.{◌≡◌, ℕ, ◌<◌, zero, suc, Bool, true, false, List, [], ◌∷◌, length, Option, Some, None, refl, sym, ◌∙◌, ap, subst, arith, inl, inr}
 use mathlib.Core.Bool.{beq}
 use Rattle.java_lex.specs.declared.spelling.Terminal.{Terminal}
 use Rattle.java_lex.specs.declared.token.Token.{Token}
@@ -9,7 +9,7 @@ use Rattle.reading_core.specs.Loops.{repeat_by, repeat}
 use Rattle.reading_core.specs.Machine.{Test, Next}
 use Rattle.reading_core.specs.Follow.{follow, Allows}
 use Rattle.reading_core.proofs.Runs.{tested, when_true, when_false}
-use Rattle.reading_core.proofs.Follows.{follow_bind, follow_same}
+use Rattle.reading_core.proofs.Follows.{follow_bind}
 
 pub on_side : (side jml : Bool) (x : Terminal) → beq jml side ≡ true → on side (jml, x) ≡ x
 on_side true true x is = refl
@@ -83,11 +83,12 @@ module _ {A : Type 0} (begins : List Token → Bool) (item : List Token → Read
   turn_same : (f g : List Token → Read (List A)) (ts : List Token) → Short → ((rest : List Token) → length rest < length ts → f rest ≡ g rest) → turn f ts ≡ turn g ts
   turn_same f g ts short same =
       elim (tested (begins ts)) [
-        inl is ↦
-          when_true (begins ts) _ _ is
-          ∙ bind_on (λ _ rest. length rest < length ts) (item ts) _ _ (short ts) (λ a rest less. ap (λ (r : Read (List A)). r >>= (λ as_ rest'. Got (a ∷ as_) rest')) (same rest less))
-          ∙ sym (when_true (begins ts) _ _ is)
-      | inr not ↦ when_false (begins ts) _ _ not ∙ sym (when_false (begins ts) _ _ not) ]
+        | inl is ↦
+            when_true (begins ts) _ _ is
+            ∙ bind_on (λ _ rest. length rest < length ts) (item ts) _ _ (short ts) (λ a rest less. ap (λ (r : Read (List A)). r >>= (λ as_ rest'. Got (a ∷ as_) rest')) (same rest less))
+            ∙ sym (when_true (begins ts) _ _ is)
+        | inr not ↦ when_false (begins ts) _ _ not ∙ sym (when_false (begins ts) _ _ not)
+      ]
 
   enough : Short → (n m : ℕ) (ts : List Token) → length ts < n → length ts < m → repeat_by begins item n ts ≡ repeat_by begins item m ts
   enough short zero m ts low high = absurd (omega arith)
@@ -115,12 +116,13 @@ module _ {A : Type 0} (begins : List Token → Bool) (item : List Token → Read
   on_repeat_by Q P at_end at_turn items zero ts low short = absurd (omega arith)
   on_repeat_by Q P at_end at_turn items (suc n) ts low short =
       elim (tested (begins ts)) [
-        inl is ↦
-          subst (OnGot (P ts)) (sym (when_true (begins ts) _ _ is))
-          (on_bind (λ a mid. Q ts a mid × (length mid < length ts)) (P ts) (item ts) _ (both (item ts) (items ts) (short ts)) (λ a mid so.
-          on_bind (P mid) (P ts) (repeat_by begins item n mid) _ (on_repeat_by Q P at_end at_turn items n mid (let le : length mid < length ts = so.1 in omega arith) short)
-          (λ as_ rest others. at_turn ts mid rest a as_ is so.0 others)))
-      | inr not ↦ subst (OnGot (P ts)) (sym (when_false (begins ts) _ _ not)) (at_end ts not) ]
+        | inl is ↦
+            subst (OnGot (P ts)) (sym (when_true (begins ts) _ _ is))
+            (on_bind (λ a mid. Q ts a mid × (length mid < length ts)) (P ts) (item ts) _ (both (item ts) (items ts) (short ts)) (λ a mid so.
+            on_bind (P mid) (P ts) (repeat_by begins item n mid) _ (on_repeat_by Q P at_end at_turn items n mid (let le : length mid < length ts = so.1 in omega arith) short)
+            (λ as_ rest others. at_turn ts mid rest a as_ is so.0 others)))
+        | inr not ↦ subst (OnGot (P ts)) (sym (when_false (begins ts) _ _ not)) (at_end ts not)
+      ]
     where
       both : (r : Read A) → OnGot (Q ts) r → OnGot (λ _ rest. length rest < length ts) r → OnGot (λ a mid. Q ts a mid × (length mid < length ts)) r
       both (Got a mid) x y = (x, y)
@@ -140,12 +142,13 @@ module _ {A : Type 0} (begins : List Token → Bool) (item : List Token → Read
   repeat_sim_by h closing short at_end at_turn zero ts low = absurd (omega arith)
   repeat_sim_by h closing short at_end at_turn (suc n) ts low =
       elim (tested (begins ts)) [
-        inl is ↦
-          ap (λ r. follow r (λ _ rest. closing rest)) (when_true (begins ts) _ _ is)
-          ∙ follow_bind (item ts) _ _
-          ∙ follow_on (item ts) (short ts) (λ a rest less. follow_bind (repeat_by begins item n rest) _ _ ∙ repeat_sim_by h closing short at_end at_turn n rest (omega arith))
-          ∙ at_turn ts is
-      | inr not ↦ ap (λ r. follow r (λ _ rest. closing rest)) (when_false (begins ts) _ _ not) ∙ at_end ts not ]
+        | inl is ↦
+            ap (λ r. follow r (λ _ rest. closing rest)) (when_true (begins ts) _ _ is)
+            ∙ follow_bind (item ts) _ _
+            ∙ follow_on (item ts) (short ts) (λ a rest less. follow_bind (repeat_by begins item n rest) _ _ ∙ repeat_sim_by h closing short at_end at_turn n rest (omega arith))
+            ∙ at_turn ts is
+        | inr not ↦ ap (λ r. follow r (λ _ rest. closing rest)) (when_false (begins ts) _ _ not) ∙ at_end ts not
+      ]
     where
       follow_on : {f g : A → List Token → Next} (r : Read A) → OnGot (λ _ rest. length rest < length ts) r → ((a : A) (rest : List Token) → length rest < length ts → f a rest ≡ g a rest) → follow r f ≡ follow r g
       follow_on (Got a rest) is same = same a rest is

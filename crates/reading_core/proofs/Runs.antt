@@ -1,9 +1,8 @@
 -- Laws of the machine.
-use Rattle.std.proofs.Common.{◌≡◌, ℕ, ◌+◌, ◌<◌, ◌≤◌, zero, suc, Bool, true, false, ◌&&◌, nat_le, List, [], ◌∷◌, ◌++◌, length, refl, sym, ◌∙◌, ap, subst, arith, ◌⊎◌, inl, inr, append_assoc}
+use Rattle.std.proofs.Common.{◌≡◌, ℕ, ◌<◌, suc, Bool, true, false, List, [], ◌∷◌, ◌++◌, length, refl, sym, ◌∙◌, ap, arith, ◌⊎◌, inl, inr}
 use Rattle.java_lex.specs.declared.token.Token.{Token}
-use Rattle.reading_core.specs.Machine.{Test, Act, Take, Open, Leave, Refuse, Step, On, OnOpen, Stop, Next, Fine, BadAt, DeepAt, act, step, all_ready, run}
+use Rattle.reading_core.specs.Machine.{Test, Act, Step, On, OnOpen, Stop, Next, Fine, BadAt, DeepAt, step, all_ready, run}
 use Rattle.reading_core.specs.Follow.{behind}
-use Rattle.reading_core.specs.Endings.{Endings, Settled, Takes, all_calm, tail_calm, ranks}
 
 -- CASES
 

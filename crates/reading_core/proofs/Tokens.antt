@@ -1,14 +1,13 @@
 -- What a token is, by its terminal.
-use Rattle.std.proofs.Common.{◌≡◌, ℕ, ◌||◌, ◌&&◌, not, cond, Bool, true, false, List, [], ◌∷◌, map, bytes_eq, refl, sym, ◌∙◌, ap, ◌⊎◌, inl, inr, unwrap_or, option_map}
+use Rattle.std.proofs.Common.{◌≡◌, ℕ, ◌&&◌, cond, Bool, true, false, List, [], ◌∷◌, bytes_eq, refl, sym, ◌∙◌, ap, unwrap_or, option_map}
 use Rattle.std.specs.Prelude.{find, Option, Some, None}
-use Rattle.std.specs.List.{list_all}
 use Rattle.java_lex.specs.declared.spelling.Terminal.{Terminal}
 use Rattle.java_lex.specs.declared.spelling.Terminal.TheVariants as terminal
-use Rattle.java_lex.specs.declared.spelling.Absent.TheVariants.{Text, Jml}
+use Rattle.java_lex.specs.declared.spelling.Absent.TheVariants.{Jml}
 use Rattle.java_lex.specs.declared.token.Token.{Token}
 use Rattle.java_lex.specs.declared.token.TokenKind.{TokenKind}
 use Rattle.java_lex.specs.declared.token.TokenKind.TheVariants.{Word, Number, Quoted, Slashed, Symbol, End}
-use Rattle.java_lex.specs.Spellings.{Spelling, means, spelled_in, symbols}
+use Rattle.java_lex.specs.Spellings.{Spelling, means, symbols}
 use Rattle.java_lex.specs.Terminals.{words, slashed, terminal_of_kind, terminal_of}
 use Rattle.java_tree.specs.Phrases.{Letter, letter, text_of}
 use Rattle.reading_core.specs.Read.{on, at_side, number_of, is_name_terminal, is_open_terminal, is_close_terminal, is_comma_terminal, is_semicolon_terminal, is_name, is_open, is_close, is_comma, is_semicolon}

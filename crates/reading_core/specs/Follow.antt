@@ -3,7 +3,7 @@ use Rattle.std.specs.Prelude.{◌≡◌, ℕ, Bool, true, false, List, [], ◌�
 use Rattle.java_lex.specs.declared.token.Token.{Token}
 use Rattle.reading_core.specs.Read.{Read, Got, Bad, Deep}
 use Rattle.reading_core.specs.Deeper.{Level}
-use Rattle.reading_core.specs.Machine.{Test, Act, Take, Open, Leave, Refuse, Step, On, OnOpen, Stop, Next, Fine, BadAt, DeepAt, run}
+use Rattle.reading_core.specs.Machine.{Test, Act, Step, On, OnOpen, Stop, Next, Fine, BadAt, DeepAt, run}
 
 -- go_on: what happens behind what was read
 abbrev pub follow : {A : Type 0} → Read A → (A → List Token → Next) → Next

@@ -5,3 +5,4 @@ pub mod Machine
 pub mod Endings
 pub mod Follow
 pub mod Exact
+pub mod Gives

@@ -1,7 +1,9 @@
 ghost use Rattle.std.specs.Prelude.{◌≡◌, IfOk, MatchOption, [], ◌∷◌, bytes_eq};
 ghost use Rattle.java_tree.specs.Phrases.{ident_of, text_of};
-ghost use Rattle.reading_core.specs.Read.{at_side, number_of};
+ghost use Rattle.reading_core.specs.Read.{at_side, number_of, expect, is_name, is_open, is_close, is_comma, is_semicolon};
+ghost use Rattle.reading_core.specs.Gives.{Gives};
 
+use crate::stop::Stop;
 use java_lex::{Lexeme, Terminal, Token, TokenKind};
 use java_tree::Ident;
 use no_memory::NoMemory;
@@ -58,5 +60,70 @@ pub fn is_word(token: &Token, bytes: &[u8]) -> bool
     match &token.kind {
         TokenKind::Word(word) => word.bytes() == bytes,
         _ => bytes.is_empty(),
+    }
+}
+
+/// A name, in a clause (`jml`) or in code, and the tokens behind it. Takes no memory.
+pub fn name(tokens: &[Token], jml: bool) -> Result<(&Token, &[Token]), Stop<'_>>
+    ensures { Gives (λ t. t.now) result (expect (is_name jml) tokens.now) }
+{
+    let Some((token, rest)) = first(tokens) else {
+        return Err(Stop::Wrong(tokens));
+    };
+    match terminal_at(token, jml) {
+        Terminal::Name => Ok((token, rest)),
+        _ => Err(Stop::Wrong(tokens)),
+    }
+}
+
+/// A `(`, in a clause (`jml`) or in code, and the tokens behind it. Takes no memory.
+pub fn open(tokens: &[Token], jml: bool) -> Result<(&Token, &[Token]), Stop<'_>>
+    ensures { Gives (λ t. t.now) result (expect (is_open jml) tokens.now) }
+{
+    let Some((token, rest)) = first(tokens) else {
+        return Err(Stop::Wrong(tokens));
+    };
+    match terminal_at(token, jml) {
+        Terminal::OpenParen => Ok((token, rest)),
+        _ => Err(Stop::Wrong(tokens)),
+    }
+}
+
+/// A `)`, in a clause (`jml`) or in code, and the tokens behind it. Takes no memory.
+pub fn close(tokens: &[Token], jml: bool) -> Result<(&Token, &[Token]), Stop<'_>>
+    ensures { Gives (λ t. t.now) result (expect (is_close jml) tokens.now) }
+{
+    let Some((token, rest)) = first(tokens) else {
+        return Err(Stop::Wrong(tokens));
+    };
+    match terminal_at(token, jml) {
+        Terminal::CloseParen => Ok((token, rest)),
+        _ => Err(Stop::Wrong(tokens)),
+    }
+}
+
+/// A comma, in a clause (`jml`) or in code, and the tokens behind it. Takes no memory.
+pub fn comma(tokens: &[Token], jml: bool) -> Result<(&Token, &[Token]), Stop<'_>>
+    ensures { Gives (λ t. t.now) result (expect (is_comma jml) tokens.now) }
+{
+    let Some((token, rest)) = first(tokens) else {
+        return Err(Stop::Wrong(tokens));
+    };
+    match terminal_at(token, jml) {
+        Terminal::Comma => Ok((token, rest)),
+        _ => Err(Stop::Wrong(tokens)),
+    }
+}
+
+/// A semicolon, in a clause (`jml`) or in code, and the tokens behind it. Takes no memory.
+pub fn semicolon(tokens: &[Token], jml: bool) -> Result<(&Token, &[Token]), Stop<'_>>
+    ensures { Gives (λ t. t.now) result (expect (is_semicolon jml) tokens.now) }
+{
+    let Some((token, rest)) = first(tokens) else {
+        return Err(Stop::Wrong(tokens));
+    };
+    match terminal_at(token, jml) {
+        Terminal::Semicolon => Ok((token, rest)),
+        _ => Err(Stop::Wrong(tokens)),
     }
 }

@@ -6,6 +6,6 @@ mod cursor;
 mod levels;
 mod stop;
 
-pub use cursor::{first, ident, is_word, number, terminal_at};
+pub use cursor::{close, comma, first, ident, is_word, name, number, open, semicolon, terminal_at};
 pub use levels::{LEVELS, lower};
 pub use stop::Stop;
