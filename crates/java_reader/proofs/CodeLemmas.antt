@@ -1,19 +1,25 @@
 -- What the code's proofs cite.
-use Rattle.std.proofs.Common.{◌≡◌, ℕ, zero, suc, ◌+◌, ◌<◌, ◌≤◌, Bool, true, false, List, [], ◌∷◌, ◌++◌, length, map, Option, Some, None, refl, sym, ap, ◌∙◌, subst, arith, append_assoc, append-nil, length-append}
+use Rattle.std.proofs.Common.{◌≡◌, ℕ, zero, suc, ◌+◌, ◌<◌, ◌≤◌, Bool, true, false, List, [], ◌∷◌, ◌++◌, length, map, Vec, Box, Global, Option, Some, None, refl, sym, ap, ◌∙◌, subst, arith, append_assoc, append-nil, length-append}
 use Rattle.java_lex.specs.declared.token.Token.{Token}
 use Rattle.java_tree.specs.declared.expressions.JavaNode.{JavaNode}
 use Rattle.java_tree.specs.declared.expressions.JavaNode.TheBlock as block
 use Rattle.java_tree.specs.declared.statements.StmtTree.{StmtTree}
-use Rattle.java_tree.specs.Trees.{Expr, Exprs, Stmt, Stmts, done, next}
+use Rattle.java_tree.specs.declared.expressions.JavaTree.{JavaTree}
+use Rattle.java_tree.specs.declared.expressions.JavaNode.TheVariants.{CallOn}
+use Rattle.java_tree.specs.declared.names.Ident.{Ident}
+use Rattle.java_tree.proofs.Rows.{java_call_on}
+use Rattle.java_tree.specs.Trees.{Expr, Exprs, call_on, Stmt, Stmts, done, next}
 use Rattle.java_tree.specs.Expressions.{place}
-use Rattle.java_tree.specs.Seen.{java_node, stmt_tree, stmt_trees}
+use Rattle.java_tree.specs.Seen.{java_node, java_tree, java_trees, stmt_tree, stmt_trees}
 use Rattle.reading_core.specs.declared.stop.Stop.{Stop}
 use Rattle.reading_core.specs.declared.stop.Stop.TheVariants.{Memory, Wrong, Deep as DeepStop}
 use Rattle.reading_core.specs.Read.{Read, Got, Bad, Deep, ◌>>=◌, at_side}
 use Rattle.java_reading.specs.declared.form.Reached.{Reached}
+use Rattle.java_lex.specs.declared.spelling.Terminal.{Terminal}
+use Rattle.java_reading.specs.declared.form.Turn.{Turn}
 use Rattle.java_reading.specs.declared.form.Turn.TheVariants.{Goes}
 use Rattle.java_reading.specs.Readers.{Reader, head, give, and_then, repeat_by, repeat, left_below}
-use Rattle.java_reading.specs.StatementReading.{turn_of, reached_in, further_in, step_in, statement_at, statement_in, under_at, stmts_of}
+use Rattle.java_reading.specs.StatementReading.{turn_of, turn_in, reached_in, further_in, step_in, statement_at, statement_in, under_at, stmts_of}
 use Rattle.java_reading.specs.Gives.{Blames}
 
 -- the place of a tree is its first token's
@@ -32,6 +38,11 @@ place_node at (block.Not' p at_a a) = refl
 place_node at (block.Neg' p at_a a) = refl
 place_node at (block.Bin' sign p at_a a q at_b b) = refl
 
+-- a call behind a `.`, by the box that has what stands before it
+pub call_on_is : (target : JavaTree) (a : Box JavaTree Global) (name : Ident) (args : Vec JavaTree Global) → a.value ≡ target → java_node target.at (CallOn a name args) ≡ call_on (place (java_tree target)) (java_tree target) name (java_trees args.items)
+call_on_is target a name args is =
+    java_call_on target.at a name args ∙ ap (λ e. call_on target.at e name (java_trees args.items)) (ap java_tree is) ∙ ap (λ at. call_on at (java_tree target) name (java_trees args.items)) (sym (place_node target.at target.node))
+
 pub list_stmts : (ss : List StmtTree) → stmts_of (map stmt_tree ss) ≡ stmt_trees ss
 list_stmts [] = refl
 list_stmts (s ∷ ss) = ap (next (stmt_tree s)) (list_stmts ss)
@@ -48,7 +59,20 @@ module _ (expression : ℕ → Reader Expr) (arguments : ℕ → Reader Exprs) w
   -- a `.` and what stands behind it
   pub goes_is : (base left less : ℕ) (r : Reached) (e : Expr) (t : Token) (ts : List Token) → turn_of r (at_side false t) ≡ Goes → left_below left ≡ Some less
       → reached_in expression arguments base (further_in expression arguments base left) r e (t ∷ ts) ≡ step_in expression arguments base less e ts
-  goes_is base left less r e t ts turn is = rw (turn, further_some base left less is) refl
+  goes_is base left less r e t ts turn is = by (turn_of r (at_side false t)) turn ∙ further (further_in expression arguments base left) (further_some base left less is)
+    where
+      by : (w : Turn) → w ≡ Goes → turn_in expression arguments base (further_in expression arguments base left) e t ts w ≡ turn_in expression arguments base (further_in expression arguments base left) e t ts Goes
+      by w same = ap (turn_in expression arguments base (further_in expression arguments base left) e t ts) same
+
+      further : (f : Option (Expr → Reader Stmt)) → f ≡ Some (step_in expression arguments base less) → turn_in expression arguments base f e t ts Goes ≡ step_in expression arguments base less e ts
+      further f same = ap (λ g. turn_in expression arguments base g e t ts Goes) same
+
+  -- the same, by what the code has seen
+  pub reached_goes : (base left less : ℕ) (r : Reached) (e : Expr) (t : Token) (rest ts : List Token) (x : Terminal) (w : Turn) (o : Option ℕ) → ts ≡ t ∷ rest → x ≡ at_side false t → w ≡ turn_of r x → w ≡ Goes → o ≡ left_below left → o ≡ Some less
+      → reached_in expression arguments base (further_in expression arguments base left) r e ts ≡ step_in expression arguments base less e rest
+  reached_goes base left less r e t rest ts x w o here terminal turn goes below is =
+      ap (reached_in expression arguments base (further_in expression arguments base left) r e) here
+      ∙ goes_is base left less r e t rest (ap (turn_of r) (sym terminal) ∙ sym turn ∙ goes) (sym below ∙ is)
 
   pub statement_is : (left : ℕ) (ts : List Token) → statement_at expression arguments left ts ≡ statement_in expression arguments left (under_at expression arguments left) ts
   unfolding statement_at
@@ -72,10 +96,10 @@ module _ {A : Type 0} (b : Option Token → Bool) (item : Reader A) where
   give_both acc a (Deep rest) = refl
 
   turned : (n : ℕ) (rest : List Token) → b (head rest) ≡ true → repeat_by b item (suc n) rest ≡ give (λ (x : A × List A). x.0 ∷ x.1) (and_then (item rest) (λ a more. repeat_by b item n more))
-  turned n rest is = rw is refl
+  turned n rest is = rw (is, repeat_by) refl
 
   ended : (n : ℕ) (rest : List Token) → b (head rest) ≡ false → repeat_by b item (suc n) rest ≡ Got [] rest
-  ended n rest is = rw is refl
+  ended n rest is = rw (is, repeat_by) refl
 
   pub so_far_more : (whole : Read (List A)) (acc : List A) (rest behind : List Token) (a : A) → SoFar whole acc rest → b (head rest) ≡ true → item rest ≡ Got a behind → length behind < length rest → SoFar whole (acc ++ a ∷ []) behind
   so_far_more whole acc rest behind a (zero, few, is) begins got less = absurd (omega arith)

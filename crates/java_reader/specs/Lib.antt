@@ -1,2 +1,2 @@
-pub mod PartForms
-pub mod MemberReading
+pub mod Code
+pub mod Targets

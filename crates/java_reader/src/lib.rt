@@ -1,6 +1,9 @@
 //! The reader of Java texts.
 #![tactic(auto)]
 
-mod form;
 
-pub use form::{PartForm, part_form};
+mod places;
+
+mod stub;
+
+

@@ -11,11 +11,9 @@ ghost use Rattle.java_reader.specs.Code.{arguments_at, expression_at};
 ghost use Rattle.java_reading.specs.Gives.{Blames};
 ghost use Rattle.java_reader.specs.Targets.{called_on, plain_of};
 
-use crate::form::{Reached, Turn, turn_at};
-use crate::marks::Fixed;
 use crate::stub::{arguments, expression};
-use crate::tokens::{fixed, lower, name, next_is};
 use java_lex::Token;
+use java_reading::{Fixed, Reached, Turn, fixed, lower, name, next_is, turn_at};
 use java_tree::{Ident, JavaNode, JavaTree, StmtTree};
 use no_memory::NoMemory;
 use reading_core::{Stop, first, terminal_at};
