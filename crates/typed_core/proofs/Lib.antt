@@ -1,0 +1,9 @@
+pub mod Lists
+pub mod Forms
+pub mod Parts
+pub mod Stand
+pub mod Suits
+pub mod OperatorKinds
+pub mod Agrees
+pub mod CallKinds
+pub mod ExpressionKinds
