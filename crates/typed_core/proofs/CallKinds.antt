@@ -1,5 +1,5 @@
 -- Names, reads and calls have their kinds.
-use Rattle.std.proofs.Common.{◌≡◌, ℕ, zero, suc, Bool, true, false, List, [], ◌∷◌, ◌++◌, Option, None, Some, length, refl, ap, sym, ◌∙◌, subst, eq-eqb}
+use Rattle.std.proofs.Common.{◌≡◌, ℕ, zero, suc, Bool, true, false, List, [], ◌∷◌, ◌++◌, Option, None, Some, length, refl, ap, sym, ◌∙◌, subst, eq-eqb, arith}
 use Rattle.std.specs.Prelude.{map, slice_get, option_map, ◌&&◌, ◌||◌, ◌==◌, not, if◌then◌else◌}
 use Rattle.std.specs.List.{list_all}
 use Rattle.std.specs.Cmp.Lexicographic.{pointwise}
@@ -115,16 +115,18 @@ arguments_fit : (k : Around) (ps : List ParamKnown) (gs : List Given) (es : List
     → list_all (λ (g : Given). is_known g.sort) gs ≡ true → map (λ x. sort_of x k) es ≡ map (λ (g : Given). as_sort g.sort) gs → are_arguments k (map param_def ps) (map sort_of es) ≡ true
 arguments_fit k [] [] [] many none kinds known is = refl
 arguments_fit k [] [] (x ∷ es) many none kinds known is = absurd (cc)
-arguments_fit k [] (g ∷ gs) es many none kinds known is = absurd (cc)
-arguments_fit k (p ∷ ps) [] es many none kinds known is = absurd (cc)
+arguments_fit k [] (g ∷ gs) es many none kinds known is = absurd (omega (arith, eqb-true 0 (length (g ∷ gs)) many))
+arguments_fit k (p ∷ ps) [] es many none kinds known is = absurd (omega (arith, eqb-true (length (p ∷ ps)) 0 many))
 arguments_fit k (p ∷ ps) (g ∷ gs) [] many none kinds known is = absurd (cc)
 arguments_fit k (p ∷ ps) (g ∷ gs) (x ∷ es) many none kinds known is =
+    let same : length ps ≡ length gs = omega (arith, eqb-true (length (p ∷ ps)) (length (g ∷ gs)) many) in
+    let fewer = eq-eqb (length ps) (length gs) same in
     let here : sort_of x k ≡ as_sort g.sort = cc in
     let rest : map (λ y. sort_of y k) es ≡ map (λ (h : Given). as_sort h.sort) gs = cc in
     let first = nothing_left (wanted p.sort g.at g.sort) (argument_faults ps gs) none in
     let fit = fits_suits p.sort g.sort (left_of (is_kind p.sort) _ kinds) (left_of (is_known g.sort) _ known) (passes (fits p.sort g.sort) g.at Kinds first) in
     both_of (suits (kind_of p.sort) (sort_of x k)) (are_arguments k (map param_def ps) (map sort_of es)) (ap (suits (kind_of p.sort)) here ∙ fit)
-    (arguments_fit k ps gs es many (nothing_right (wanted p.sort g.at g.sort) (argument_faults ps gs) none) (right_of (is_kind p.sort) _ kinds) (right_of (is_known g.sort) _ known) rest)
+    (arguments_fit k ps gs es fewer (nothing_right (wanted p.sort g.at g.sort) (argument_faults ps gs) none) (right_of (is_kind p.sort) _ kinds) (right_of (is_known g.sort) _ known) rest)
 
 -- a call has the kind of what it gives, and none where it gives nothing
 pub record HasCall (k : Around) (c : Called) : Type 0 where

@@ -48,13 +48,18 @@ class_within w k c knows within =
     let few : length k.unit.classes ≤ 16 = knows.few in
     lt-ltb (byte c) (length k.unit.classes) (omega arith)
 
+clause_at : (sc : Scope) (k : Around) → Agrees sc k → (s : UnitSort) → is_clause sc.form ≡ true → in_clause_form k.form s ≡ s
+clause_at sc k agrees s is = ap (λ f. in_clause_form f s) agrees.form ∙ clause_form sc.form s is
+
+code_at : (sc : Scope) (k : Around) → Agrees sc k → (s : UnitSort) → is_clause sc.form ≡ false → in_code_form k.form s ≡ s
+code_at sc k agrees s is = ap (λ f. in_code_form f s) agrees.form ∙ code_form sc.form s is
+
 new_sort : (sc : Scope) (k : Around) (at c : ℕ) → Agrees sc k → c < length k.unit.classes → OnStands (made at (is_clause sc.form) c) (HasSort k)
 new_sort sc k at c agrees within =
     on_unless (HasSort k) (check (not (is_clause sc.form)) at Kinds) (typed at (Object c) (e.New (byte c)))
-    (λ none.
+    (λ quiet.
     record {
-      sort = sort_new (byte c) k ∙ ap (λ f. in_code_form f _) agrees.form
-          ∙ code_form sc.form _ (not_clause (is_clause sc.form) (passes (not (is_clause sc.form)) at Kinds none))
+      sort = sort_new (byte c) k ∙ code_at sc k agrees _ (not_clause (is_clause sc.form) (passes (not (is_clause sc.form)) at Kinds quiet))
           ∙ one_passes (nat_lt (byte c) (length k.unit.classes)) (Of (uk.Ref (byte c))) (class_within sc.world k c agrees.knows within);
       known = refl;
     })
@@ -116,9 +121,9 @@ past_agrees sc k agrees =
 old_sort : (sc : Scope) (k : Around) (at : ℕ) (x : Typed) → Agrees sc k → HasSort (unit_past k) x → OnStands (old_of at (is_exit sc.form) x) (HasSort k)
 old_sort sc k at x agrees h =
     on_unless (HasSort k) (check (is_exit sc.form) at Kinds) (typed at x.sort (e.Old x.expr))
-    (λ none.
+    (λ quiet.
     record {
-      sort = sort_old x.expr k ∙ ap (λ f. in_exit f (sort_of x.expr (unit_past k))) agrees.form ∙ exit_form sc.form (sort_of x.expr (unit_past k)) (passes (is_exit sc.form) at Kinds none) ∙ h.sort;
+      sort = sort_old x.expr k ∙ ap (λ f. in_exit f (sort_of x.expr (unit_past k))) agrees.form ∙ exit_form sc.form (sort_of x.expr (unit_past k)) (passes (is_exit sc.form) at Kinds quiet) ∙ h.sort;
       known = h.known;
     })
 
@@ -132,17 +137,17 @@ record NoFaults (sc : Scope) (kind i : Ident) : Type 0 where
 
 no_faults : (sc : Scope) (at : ℕ) (kind i : Ident) → quantifier_faults sc at kind i ≡ [] → NoFaults sc kind i
 unfolding quantifier_faults
-no_faults sc at kind i none =
+no_faults sc at kind i quiet =
     let a : List Fault = check (is_clause sc.form) at Kinds in
     let b : List Fault = check (is_some (place_in sc.world.classes 0 kind.text)) kind.at Unknown in
     let c : List Fault = check (is_none (declared_slot sc.bound i.text) && is_none (local_slot sc.here sc.held i.text)) i.at Twice in
     let d : List Fault = check (not (length sc.bound == 4)) at (TooMany Quantifiers) in
-    let abc = nothing_left ((a ++ b) ++ c) d none in
+    let abc = nothing_left ((a ++ b) ++ c) d quiet in
     let ab = nothing_left (a ++ b) c abc in
     record {
       clause = passes (is_clause sc.form) at Kinds (nothing_left a b ab);
       class = passes (is_some (place_in sc.world.classes 0 kind.text)) kind.at Unknown (nothing_right a b ab);
-      shallow = passes (not (length sc.bound == 4)) at (TooMany Quantifiers) (nothing_right ((a ++ b) ++ c) d none);
+      shallow = passes (not (length sc.bound == 4)) at (TooMany Quantifiers) (nothing_right ((a ++ b) ++ c) d quiet);
     }
 
 the_class : (o : Option ℕ) → is_some o ≡ true → (c : ℕ) × (o ≡ Some c)
@@ -209,8 +214,8 @@ RangeIs k None = Unit {0}
 RangeIs k (Some r) = HasSort k r
 
 range_fits : (k : Around) (range : Option Typed) → RangeIs k range → range_faults range ≡ [] → option_map_or (λ r. is_condition k r) (option_map (λ (r : Typed). r.expr) range) true ≡ true
-range_fits k None h none = refl
-range_fits k (Some r) h none = wanted_suits Flag r k refl h none
+range_fits k None h quiet = refl
+range_fits k (Some r) h quiet = wanted_suits Flag r k refl h quiet
 
 -- a quantifier of no fault, whose parts have their kinds inside it
 quantifier_sort : (sc : Scope) (k : Around) (at : ℕ) (all : Bool) (kind i : Ident) (range : Option Typed) (body : Typed) (c : ℕ) → Agrees sc k → place_in sc.world.classes 0 kind.text ≡ Some c → is_clause sc.form ≡ true
@@ -220,30 +225,29 @@ quantifier_sort sc k at all kind i range body c agrees is clause of_range range_
     record {
       sort = sort_quant (quantifier sc all kind range body) k
           ∙ ap
-            (λ n.
-            in_clause_form k.form
-            (where_
-            (nat_lt n (length k.unit.classes) && byte (length sc.bound) == length k.bound && option_map_or (λ r. is_condition (with_bound k n) r) (option_map (λ (r : Typed). r.expr) range) true && is_condition (with_bound k n) body.expr)
-            (Of uk.Flag)))
-            class_is
-          ∙ ap (λ f. in_clause_form f _) agrees.form
-          ∙ clause_form sc.form _ clause
+          (λ n.
+          in_clause_form k.form
+          (where_
+          (nat_lt n (length k.unit.classes) && byte (length sc.bound) == length k.bound && option_map_or (λ r. is_condition (with_bound k n) r) (option_map (λ (r : Typed). r.expr) range) true && is_condition (with_bound k n) body.expr)
+          (Of uk.Flag)))
+          class_is
+          ∙ clause_at sc k agrees _ clause
           ∙ one_passes _ (Of uk.Flag)
-            (four (nat_lt (byte c) (length k.unit.classes)) (byte (length sc.bound) == length k.bound) _ (is_condition (with_bound k (byte c)) body.expr)
-            (class_within sc.world k c agrees.knows (agrees.knows.classes kind.text c is))
-            (eq-eqb (byte (length sc.bound)) (length k.bound) (small (length sc.bound) agrees.few ∙ sym agrees.depth))
-            (range_fits (with_bound k (byte c)) range of_range range_none)
-            (wanted_suits Flag body (with_bound k (byte c)) refl of_body body_none));
+          (four (nat_lt (byte c) (length k.unit.classes)) (byte (length sc.bound) == length k.bound) _ (is_condition (with_bound k (byte c)) body.expr)
+          (class_within sc.world k c agrees.knows (agrees.knows.classes kind.text c is))
+          (eq-eqb (byte (length sc.bound)) (length k.bound) (small (length sc.bound) agrees.few ∙ sym agrees.depth))
+          (range_fits (with_bound k (byte c)) range of_range range_none)
+          (wanted_suits Flag body (with_bound k (byte c)) refl of_body body_none));
       known = refl;
     }
 
 -- REACH
 
 link_sort : (sc : Scope) (k : Around) (c : ℕ) (f : Ident) (found : Option Slot) → Agrees sc k → field_slot sc.world c f.text ≡ found → link_faults c f found ≡ [] → is_link k.unit (byte c) (link_number found) ≡ true
-link_sort sc k c f None agrees is none = absurd (cc)
-link_sort sc k c f (Some s) agrees is none =
+link_sort sc k c f None agrees is quiet = absurd (cc)
+link_sort sc k c f (Some s) agrees is quiet =
     let at = agrees.knows.fields c f.text s is in
-    let object = passes (is_object c s.sort) f.at Kinds none in
+    let object = passes (is_object c s.sort) f.at Kinds quiet in
     ap (λ d. option_map_or (λ x. x.class == byte c && same_kind x.kind (uk.Ref (byte c))) d false) at.at
     ∙ both_of (at.def.class == byte c) _ (eq-eqb at.def.class (byte c) at.class) (ap (λ x. same_kind x (uk.Ref (byte c))) at.kind ∙ same_object c s.sort object at.fixed)
   where
@@ -255,10 +259,10 @@ link_sort sc k c f (Some s) agrees is none =
     same_object d (Object o) is_ fixed = eq-eqb (byte o) (byte d) (ap byte (sym (eqb-true d o is_)))
 
 links_sort : (sc : Scope) (k : Around) (c : ℕ) (fs : List Ident) → Agrees sc k → links_faults sc.world c fs ≡ [] → list_all (is_link k.unit (byte c)) (map (λ (f : Ident). link_number (field_slot sc.world c f.text)) fs) ≡ true
-links_sort sc k c [] agrees none = refl
-links_sort sc k c (f ∷ fs) agrees none =
-    let first = link_sort sc k c f (field_slot sc.world c f.text) agrees refl (nothing_left (link_faults c f (field_slot sc.world c f.text)) (links_faults sc.world c fs) none) in
-    both_of (is_link k.unit (byte c) (link_number (field_slot sc.world c f.text))) _ first (links_sort sc k c fs agrees (nothing_right (link_faults c f (field_slot sc.world c f.text)) (links_faults sc.world c fs) none))
+links_sort sc k c [] agrees quiet = refl
+links_sort sc k c (f ∷ fs) agrees quiet =
+    let first = link_sort sc k c f (field_slot sc.world c f.text) agrees refl (nothing_left (link_faults c f (field_slot sc.world c f.text)) (links_faults sc.world c fs) quiet) in
+    both_of (is_link k.unit (byte c) (link_number (field_slot sc.world c f.text))) _ first (links_sort sc k c fs agrees (nothing_right (link_faults c f (field_slot sc.world c f.text)) (links_faults sc.world c fs) quiet))
 
 is_object_sort : (c : ℕ) (s : Sort) → is_object c s ≡ true → is_known s ≡ true → is_object_of (byte c) (as_sort s) ≡ true
 is_object_sort c Loose is known = absurd (cc)
@@ -269,31 +273,31 @@ is_object_sort c (Object d) is known = same_byte c d is
 
 reached_sort : (sc : Scope) (k : Around) (kind : Ident) (fields : List Ident) (x : Typed) (c : ℕ) → Agrees sc k → place_in sc.world.classes 0 kind.text ≡ Some c → HasSort k x → reach_faults sc.world kind fields x (Some c) ≡ []
     → sort_of_reach (reached sc.world kind fields x c) k ≡ Of (uk.Ref (byte c))
-reached_sort sc k kind fields x c agrees is h none =
-    let start = passes (is_object c x.sort) x.at Kinds (nothing_left (check (is_object c x.sort) x.at Kinds) (links_faults sc.world c fields) none) in
+reached_sort sc k kind fields x c agrees is h quiet =
+    let start = passes (is_object c x.sort) x.at Kinds (nothing_left (check (is_object c x.sort) x.at Kinds) (links_faults sc.world c fields) quiet) in
     reach_form (reached sc.world kind fields x c) k
     ∙ one_passes _ (Of (uk.Ref (byte c)))
-      (three (nat_lt (byte c) (length k.unit.classes)) (is_object_of (byte c) (sort_of x.expr k)) _
-      (class_within sc.world k c agrees.knows (agrees.knows.classes kind.text c is))
-      (ap (is_object_of (byte c)) h.sort ∙ is_object_sort c x.sort start h.known)
-      (links_sort sc k c fields agrees (nothing_right (check (is_object c x.sort) x.at Kinds) (links_faults sc.world c fields) none)))
+    (three (nat_lt (byte c) (length k.unit.classes)) (is_object_of (byte c) (sort_of x.expr k)) _
+    (class_within sc.world k c agrees.knows (agrees.knows.classes kind.text c is))
+    (ap (is_object_of (byte c)) h.sort ∙ is_object_sort c x.sort start h.known)
+    (links_sort sc k c fields agrees (nothing_right (check (is_object c x.sort) x.at Kinds) (links_faults sc.world c fields) quiet)))
 
 has_by : (sc : Scope) (k : Around) (at : ℕ) (kind : Ident) (fields : List Ident) (x y : Typed) (found : Option ℕ) → Agrees sc k → place_in sc.world.classes 0 kind.text ≡ found → HasSort k x → HasSort k y
     → OnStands (has_of sc.world at (is_clause sc.form) kind fields x y found) (HasSort k)
 has_by sc k at kind fields x y None agrees is h i =
     on_unless (HasSort k) _ _
-    (λ none.
-    let impossible = nothing_right (check (is_clause sc.form) at Kinds) (fault kind.at Unknown ∷ []) (nothing_left (check (is_clause sc.form) at Kinds ++ (fault kind.at Unknown ∷ [])) (wants Loose y) none) in
+    (λ quiet.
+    let impossible = nothing_right (check (is_clause sc.form) at Kinds) (fault kind.at Unknown ∷ []) (nothing_left (check (is_clause sc.form) at Kinds ++ (fault kind.at Unknown ∷ [])) (wants Loose y) quiet) in
     absurd (cc))
 has_by sc k at kind fields x y (Some c) agrees is h i =
     on_unless (HasSort k) ((check (is_clause sc.form) at Kinds ++ reach_faults sc.world kind fields x (Some c)) ++ wants (Object c) y) (typed at Flag (e.Has (reached sc.world kind fields x c) y.expr))
-    (λ none.
-    let front = nothing_left (check (is_clause sc.form) at Kinds ++ reach_faults sc.world kind fields x (Some c)) (wants (Object c) y) none in
+    (λ quiet.
+    let front = nothing_left (check (is_clause sc.form) at Kinds ++ reach_faults sc.world kind fields x (Some c)) (wants (Object c) y) quiet in
     let clause = passes (is_clause sc.form) at Kinds (nothing_left (check (is_clause sc.form) at Kinds) (reach_faults sc.world kind fields x (Some c)) front) in
     let set = reached_sort sc k kind fields x c agrees is h (nothing_right (check (is_clause sc.form) at Kinds) (reach_faults sc.world kind fields x (Some c)) front) in
-    let asked = wanted_suits (Object c) y k refl i (nothing_right (check (is_clause sc.form) at Kinds ++ reach_faults sc.world kind fields x (Some c)) (wants (Object c) y) none) in
+    let asked = wanted_suits (Object c) y k refl i (nothing_right (check (is_clause sc.form) at Kinds ++ reach_faults sc.world kind fields x (Some c)) (wants (Object c) y) quiet) in
     record {
-      sort = sort_has (reached sc.world kind fields x c) y.expr k ∙ ap (λ f. in_clause_form f _) agrees.form ∙ clause_form sc.form _ clause ∙ ap (λ s. has_sort s (sort_of y.expr k)) set
+      sort = sort_has (reached sc.world kind fields x c) y.expr k ∙ clause_at sc k agrees _ clause ∙ ap (λ s. has_sort s (sort_of y.expr k)) set
           ∙ one_passes (suits (uk.Ref (byte c)) (sort_of y.expr k)) (Of uk.Flag) asked;
       known = refl;
     })
@@ -301,13 +305,13 @@ has_by sc k at kind fields x y (Some c) agrees is h i =
 size_by : (sc : Scope) (k : Around) (at : ℕ) (kind : Ident) (fields : List Ident) (x : Typed) (found : Option ℕ) → Agrees sc k → place_in sc.world.classes 0 kind.text ≡ found → HasSort k x
     → OnStands (size_of sc.world at (is_clause sc.form) kind fields x found) (HasSort k)
 size_by sc k at kind fields x None agrees is h =
-    on_unless (HasSort k) _ _ (λ none. let impossible = nothing_right (check (is_clause sc.form) at Kinds) (fault kind.at Unknown ∷ []) none in absurd (cc))
+    on_unless (HasSort k) _ _ (λ quiet. let impossible = nothing_right (check (is_clause sc.form) at Kinds) (fault kind.at Unknown ∷ []) quiet in absurd (cc))
 size_by sc k at kind fields x (Some c) agrees is h =
     on_unless (HasSort k) (check (is_clause sc.form) at Kinds ++ reach_faults sc.world kind fields x (Some c)) (typed at Int (e.Size (reached sc.world kind fields x c)))
-    (λ none.
-    let clause = passes (is_clause sc.form) at Kinds (nothing_left (check (is_clause sc.form) at Kinds) (reach_faults sc.world kind fields x (Some c)) none) in
-    let set = reached_sort sc k kind fields x c agrees is h (nothing_right (check (is_clause sc.form) at Kinds) (reach_faults sc.world kind fields x (Some c)) none) in
-    record { sort = sort_size (reached sc.world kind fields x c) k ∙ ap (λ f. in_clause_form f _) agrees.form ∙ clause_form sc.form _ clause ∙ ap size_sort set; known = refl })
+    (λ quiet.
+    let clause = passes (is_clause sc.form) at Kinds (nothing_left (check (is_clause sc.form) at Kinds) (reach_faults sc.world kind fields x (Some c)) quiet) in
+    let set = reached_sort sc k kind fields x c agrees is h (nothing_right (check (is_clause sc.form) at Kinds) (reach_faults sc.world kind fields x (Some c)) quiet) in
+    record { sort = sort_size (reached sc.world kind fields x c) k ∙ clause_at sc k agrees _ clause ∙ ap size_sort set; known = refl })
 
 -- CALLS
 
@@ -315,7 +319,7 @@ size_by sc k at kind fields x (Some c) agrees is h =
 valued_sort : (sc : Scope) (k : Around) (at : ℕ) (clause : Bool) (s : Seen Called) → Agrees sc k → is_clause sc.form ≡ clause → OnStands s (HasCall k) → OnStands (valued (in_code at clause s)) (HasSort k)
 valued_sort sc k at true s agrees is h = on_over_late (HasSort k) (faulty (fault at Kinds)) (λ c. call_value c c.result) (λ c impossible. absurd (cc))
 valued_sort sc k at false s agrees is h =
-    on_over (HasCall k) (HasSort k) s (λ c. call_value c c.result) h (λ c of_c. call_value_sort k c of_c (ap (λ f. in_code_form f _) agrees.form ∙ code_form sc.form _ is))
+    on_over (HasCall k) (HasSort k) s (λ c. call_value c c.result) h (λ c of_c. call_value_sort k c of_c (code_at sc k agrees _ is))
 
 all_more : (gs : List Given) (g : Given) → list_all (λ (x : Given). is_known x.sort) gs ≡ true → is_known g.sort ≡ true → list_all (λ (x : Given). is_known x.sort) (gs ++ g ∷ []) ≡ true
 all_more [] g all_ one_ = both_of (is_known g.sort) true one_ refl
@@ -371,26 +375,26 @@ mutual
       on_over_late (HasSort k) (seen body (with_variable sc kind i)) (quantified sc at all kind i None)
       (λ b is_b.
       on_unless (HasSort k) ((quantifier_faults sc at kind i ++ []) ++ wants Flag b) _
-      (λ none.
-      let front = nothing_left (quantifier_faults sc at kind i ++ []) (wants Flag b) none in
+      (λ quiet.
+      let front = nothing_left (quantifier_faults sc at kind i ++ []) (wants Flag b) quiet in
       let own = no_faults sc at kind i (nothing_left (quantifier_faults sc at kind i) [] front) in
       let found = the_class (place_in sc.world.classes 0 kind.text) own.class in
       let inner = inner_agrees sc k kind i found.0 agrees found.1 own.shallow in
       let of_body = stands (HasSort (with_bound k (byte found.0))) (seen body (with_variable sc kind i)) b is_b (sorts body (with_variable sc kind i) (with_bound k (byte found.0)) inner) in
-      quantifier_sort sc k at all kind i None b found.0 agrees found.1 own.clause tt refl of_body (nothing_right (quantifier_faults sc at kind i ++ []) (wants Flag b) none)))
+      quantifier_sort sc k at all kind i None b found.0 agrees found.1 own.clause tt refl of_body (nothing_right (quantifier_faults sc at kind i ++ []) (wants Flag b) quiet)))
   sorts (quant_in at all kind i range body) sc k agrees =
       on_over_two_late (HasSort k) (seen range (with_variable sc kind i)) (seen body (with_variable sc kind i)) (λ r b. quantified sc at all kind i (Some r) b)
       (λ r b is_r is_b.
       on_unless (HasSort k) ((quantifier_faults sc at kind i ++ wants Flag r) ++ wants Flag b) _
-      (λ none.
-      let front = nothing_left (quantifier_faults sc at kind i ++ wants Flag r) (wants Flag b) none in
+      (λ quiet.
+      let front = nothing_left (quantifier_faults sc at kind i ++ wants Flag r) (wants Flag b) quiet in
       let own = no_faults sc at kind i (nothing_left (quantifier_faults sc at kind i) (wants Flag r) front) in
       let found = the_class (place_in sc.world.classes 0 kind.text) own.class in
       let inner = inner_agrees sc k kind i found.0 agrees found.1 own.shallow in
       let of_range = stands (HasSort (with_bound k (byte found.0))) (seen range (with_variable sc kind i)) r is_r (sorts range (with_variable sc kind i) (with_bound k (byte found.0)) inner) in
       let of_body = stands (HasSort (with_bound k (byte found.0))) (seen body (with_variable sc kind i)) b is_b (sorts body (with_variable sc kind i) (with_bound k (byte found.0)) inner) in
       quantifier_sort sc k at all kind i (Some r) b found.0 agrees found.1 own.clause of_range (nothing_right (quantifier_faults sc at kind i) (wants Flag r) front) of_body
-      (nothing_right (quantifier_faults sc at kind i ++ wants Flag r) (wants Flag b) none)))
+      (nothing_right (quantifier_faults sc at kind i ++ wants Flag r) (wants Flag b) quiet)))
   sorts (has at a kind fields b) sc k agrees =
       on_over_two (HasSort k) (HasSort k) (HasSort k) (seen a sc) (seen b sc) _ (sorts a sc k agrees) (sorts b sc k agrees)
       (λ x y h i. has_by sc k at kind fields x y (place_in sc.world.classes 0 kind.text) agrees refl h i)

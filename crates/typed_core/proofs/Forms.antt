@@ -2,8 +2,6 @@
 use Rattle.std.proofs.Common.{◌≡◌, ℕ, Bool, true, false, List, [], ◌∷◌, ◌++◌, Option, None, Some, Result, Ok, Err, refl, ap, sym, ◌∙◌}
 use Rattle.std.specs.Prelude.{option_map}
 use Rattle.java_tree.specs.Trees.{Expr, Decl, Stmts, done, next}
-use Rattle.java_tree.specs.declared.statements.StmtTree.TheViews.{the_lemmas as stmt_lemmas}
-use Rattle.java_tree.proofs.Rows.{stmt_block}
 use Rattle.taco_unit.specs.declared.stmt.Stmt.{Stmt as UnitStmt}
 use Rattle.typed_expressions.specs.declared.fault.Fault.{Fault}
 use Rattle.typed_expressions.specs.declared.sort.Sort.{Sort}
@@ -14,7 +12,7 @@ use Rattle.typed_expressions.specs.declared.world.Declared.{Declared}
 use Rattle.typed_expressions.specs.Faults.{check, soonest}
 use Rattle.typed_expressions.specs.Seen.{Seen, Stands, over, over_two, beside, told, on, on_two}
 use Rattle.typed_expressions.specs.Expressions.{in_body, seen}
-use Rattle.typed_expressions.proofs.Told.{told-over, told-over_two, told-beside, told-stands, told_leaves, wholes}
+use Rattle.typed_expressions.proofs.Told.{told-over, told-over_two, told-beside, told-stands}
 use Rattle.typed_core.specs.declared.statements.Piece.{Piece}
 use Rattle.typed_core.specs.Statements.{State, Ended, is_full, as_list, first_set, seen_decl, seen_decls, seen_stmt, seen_stmts, initial, skipped, returned, return_of, return_none}
 use Rattle.typed_core.specs.Reported.{first_reported, return_reported, Turn, turn, skip_told, decls_told, stmts_told}
@@ -48,9 +46,17 @@ decls-state w h sort ds st = (both_decls w h sort ds st (Stands [])).0 ∙ ap (�
 pub decls-is : (w : World) (h : Here) (sort : Sort) (ds : List Decl) (st : State) → told (seen_decls w h sort ds st (Stands [])).is ≡ (decls_told w h sort ds st (Ok [])).is
 decls-is w h sort ds st = (both_decls w h sort ds st (Stands [])).1 ∙ ap (λ r. (decls_told w h sort ds st r).is) (told-stands [])
 
-pub ruleset decl_lists = (decls-state, decls-is)
+by_flag : {A : Type 0} (b : Bool) (st : State) (r : Result A Fault) (t : Turn A) → b ≡ true → skip_told b st r t ≡ turn st r
+by_flag true st r t is = refl
+by_flag false st r t is = absurd (cc)
+
+-- behind the first local beyond the limit nothing is asked
+pub decls_full : (w : World) (h : Here) (sort : Sort) (d : Decl) (ds : List Decl) (st : State) (r : Result (List UnitStmt) Fault) → is_full st ≡ true → decls_told w h sort (d ∷ ds) st r ≡ turn st r
+decls_full w h sort d ds st r is =
+    by_flag (is_full st) st r (decls_told w h sort ds (seen_decl w h sort d st).state (on_two r (told (seen_decl w h sort d st).is) (λ xs x. told (Stands (xs ++ x ∷ []))))) is
 
 both_stmts : (w : World) (h : Here) (depth : ℕ) (ss : Stmts) (st : State) (s : Seen (List UnitStmt)) → ((seen_stmts w h depth ss st s).state ≡ (stmts_told w h depth ss st (told s)).state) × (told (seen_stmts w h depth ss st s).is ≡ (stmts_told w h depth ss st (told s)).is)
+unfolding seen_stmts
 both_stmts w h depth done st s = (refl, refl)
 both_stmts w h depth (next a more) st s =
     let t : Seen (List UnitStmt) = over_two s (seen_stmt w h depth a st).is (λ xs p. Stands (xs ++ as_list p)) in
@@ -69,4 +75,4 @@ pub told-returned : (w : World) (h : Here) (st : State) (at : ℕ) (a : Option E
 told-returned w h st at None = refl
 told-returned w h st at (Some a) = told-over (seen a (in_body w h st.held)) (return_of h.result)
 
-pub ruleset statements = (stmt_lemmas, stmt_block, stmts-state, stmts-is, told-returned, wholes)
+pub ruleset returns = (told-returned)

@@ -1,6 +1,7 @@
 pub mod Lists
 pub mod Forms
 pub mod Parts
+pub mod Steps
 pub mod Stand
 pub mod Suits
 pub mod OperatorKinds

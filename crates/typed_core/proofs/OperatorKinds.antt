@@ -73,9 +73,9 @@ bin_sort sign.Ge f x y k at h i side none = sort_bin op.Ge x.expr y.expr k ∙ i
 bin_sort sign.And f x y k at h i side none = sort_bin op.And x.expr y.expr k ∙ flags x y k (Of kind.Flag) h i none
 bin_sort sign.Or f x y k at h i side none = sort_bin op.Or x.expr y.expr k ∙ flags x y k (Of kind.Flag) h i none
 bin_sort sign.Implies f x y k at h i side none =
-    sort_bin op.Implies x.expr y.expr k ∙ ap (λ g. in_clause g _) at ∙ ap (in_clause (form_of f)) (flags x y k (Of kind.Flag) h i none) ∙ clause_form f (Of kind.Flag) (or_true (is_clause f) side)
+    sort_bin op.Implies x.expr y.expr k ∙ ap (λ g. in_clause g (where_ (suits kind.Flag (sort_of x.expr k) && suits kind.Flag (sort_of y.expr k)) (Of kind.Flag))) at ∙ ap (in_clause (form_of f)) (flags x y k (Of kind.Flag) h i none) ∙ clause_form f (Of kind.Flag) (or_true (is_clause f) side)
 bin_sort sign.Iff f x y k at h i side none =
-    sort_bin op.Iff x.expr y.expr k ∙ ap (λ g. in_clause g _) at ∙ ap (in_clause (form_of f)) (flags x y k (Of kind.Flag) h i none) ∙ clause_form f (Of kind.Flag) (or_true (is_clause f) side)
+    sort_bin op.Iff x.expr y.expr k ∙ ap (λ g. in_clause g (where_ (suits kind.Flag (sort_of x.expr k) && suits kind.Flag (sort_of y.expr k)) (Of kind.Flag))) at ∙ ap (in_clause (form_of f)) (flags x y k (Of kind.Flag) h i none) ∙ clause_form f (Of kind.Flag) (or_true (is_clause f) side)
 
 result_known : (s : Sign) → is_known (result_sort s) ≡ true
 result_known sign.Add = refl

@@ -10,7 +10,7 @@ use Rattle.typed_expressions.specs.declared.world.Form.TheVariants as form
 use Rattle.typed_expressions.specs.Faults.{soonest}
 use Rattle.typed_expressions.specs.Seen.{Seen, Stands, over, over_two, beside, told, on, on_two, with_fault}
 use Rattle.typed_expressions.specs.Expressions.{in_clause, seen}
-use Rattle.typed_expressions.proofs.Told.{told-over, told-over_two, told-beside, told-stands, wholes}
+use Rattle.typed_expressions.proofs.Told.{told-over, told-over_two, told-beside, told-stands}
 use Rattle.typed_core.specs.declared.members.Spec.{Spec}
 use Rattle.typed_core.specs.declared.members.Counts.{Counts}
 use Rattle.typed_core.specs.declared.members.Members.{Members}
@@ -54,7 +54,3 @@ classes_from w n counts s (c ∷ cs) =
 
 pub told-classes : (w : World) (n : ℕ) (counts : Counts) (cs : Classes) → told (seen_classes w n counts (Stands nothing_built) cs) ≡ classes_told w n counts (Ok nothing_built) cs
 told-classes w n counts cs = classes_from w n counts (Stands nothing_built) cs ∙ ap (λ r. classes_told w n counts r cs) (told-stands nothing_built)
-
-pub ruleset clause_lists = (wholes)
-
-pub ruleset part_lists = (wholes)

@@ -128,8 +128,10 @@ here_in owner = record { class = owner; fixed = false; params = []; sorts = []; 
 
 -- FAULTS OF PARAMETERS: a name that is there already, the ninth
 
+abbrev pub param_faults : Names → Names → Param → List Fault
+param_faults names before p =
+    typed_faults names p.mods p.kind ++ (check (is_none (place_in before 0 p.name.text)) p.name.at Twice ++ check (not (length before == 8)) p.name.at (TooMany Params))
+
 abbrev pub params_faults : Names → Names → List Param → List Fault
 params_faults names before [] = []
-params_faults names before (p ∷ more) =
-    typed_faults names p.mods p.kind ++ (check (is_none (place_in before 0 p.name.text)) p.name.at Twice ++ (check (not (length before == 8)) p.name.at (TooMany Params)
-    ++ params_faults names (before ++ (0, p.name.text) ∷ []) more))
+params_faults names before (p ∷ more) = param_faults names before p ++ params_faults names (before ++ (0, p.name.text) ∷ []) more

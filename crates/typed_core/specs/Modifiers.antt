@@ -39,9 +39,12 @@ abbrev pub marks_of : List Modifier → Marks
 marks_of = marks_from no_marks
 
 -- a modifier that is there already
+abbrev pub repeated_at : Marks → Modifier → List Fault
+repeated_at ms m = check (is_none (place_of ms m.word)) m.at Twice
+
 abbrev pub repeated_from : Marks → List Modifier → List Fault
 repeated_from ms [] = []
-repeated_from ms (m ∷ more) = check (is_none (place_of ms m.word)) m.at Twice ++ repeated_from (marked ms m.word m.at) more
+repeated_from ms (m ∷ more) = repeated_at ms m ++ repeated_from (marked ms m.word m.at) more
 
 -- both of two that say the contrary: the later one
 abbrev pub opposed : Option ℕ → Option ℕ → List Fault

@@ -9,6 +9,7 @@ use Rattle.typed_expressions.specs.declared.sort.Sort.{Sort}
 use Rattle.typed_expressions.specs.declared.typed.Typed.{Typed}
 use Rattle.typed_expressions.specs.Seen.{Seen, Stands, told, on, on_two, with_fault}
 use Rattle.typed_core.specs.declared.statements.Piece.{Piece}
+use Rattle.typed_core.specs.declared.statements.Piece.TheVariants.{One}
 use Rattle.typed_expressions.specs.declared.world.Form.TheVariants as form
 use Rattle.typed_expressions.specs.Faults.{soonest}
 use Rattle.typed_expressions.specs.Expressions.{in_clause, seen}
@@ -18,7 +19,7 @@ use Rattle.typed_core.specs.declared.members.Members.{Members}
 use Rattle.typed_core.specs.declared.members.Built.{Built}
 use Rattle.typed_core.specs.Heads.{next}
 use Rattle.typed_core.specs.Members.{many_clauses, clause_of, with_need, with_give, seen_part, counted, with_made, seen_class, with_class, fresh_class, counted_parts}
-use Rattle.typed_core.specs.Statements.{State, is_full, as_list, seen_decl, seen_stmt, first_value, initial, return_none, return_of}
+use Rattle.typed_core.specs.Statements.{State, is_full, as_list, as_stmt, condition_of, many_loops, seen_decl, seen_stmt, first_value, initial, return_none, return_of}
 use Rattle.taco_unit.specs.declared.stmt.Stmt.TheVariants as s
 use Rattle.typed_expressions.specs.Calls.{byte}
 
@@ -31,6 +32,14 @@ first_reported sort n (Some a) = on a (λ x. told (initial n sort x))
 abbrev pub return_reported : Option Sort → ℕ → Option (Result Typed Fault) → Result Piece Fault
 return_reported result at None = told (return_none result at)
 return_reported result at (Some a) = on a (λ x. told (return_of result x))
+
+-- an `if` without `else`, and a `while`
+abbrev pub if_told : Result Typed Fault → Result Piece Fault → Result Piece Fault
+if_told test then_ = on_two (on test (λ x. told (condition_of x))) then_ (λ x p. told (Stands (One (s.If x (as_stmt p) (s.Block [])))))
+
+abbrev pub while_told : ℕ → ℕ → Result Typed Fault → Result Piece Fault → Result Piece Fault
+while_told depth at test body =
+    with_fault (soonest (many_loops depth at)) (on_two (on test (λ x. told (condition_of x))) body (λ x p. told (Stands (One (s.While x (as_stmt p))))))
 
 -- what is reported of a part of a body, and the locals behind it
 pub record Turn (A : Type 0) : Type 0 where

@@ -160,10 +160,14 @@ seen_local w h mods kind ds st =
 abbrev pub deeper : ℕ → ℕ
 deeper depth = min (depth + 1) 5
 
+-- the first loop beyond the limit
+abbrev pub many_loops : ℕ → ℕ → List Fault
+many_loops depth at = check (not (depth == 4)) at (TooMany Loops)
+
 abbrev pub nothing : Piece
 nothing = One (s.Block [])
 
-abbrev mutual
+unfoldable mutual
   pub seen_stmt : World → Here → ℕ → Stmt → State → Ended Piece
   seen_stmt w h depth (block ss) st =
       skipped (is_full st) st (Stands nothing)
@@ -183,7 +187,7 @@ abbrev mutual
   seen_stmt w h depth (loops at c a) st =
       skipped (is_full st) st (Stands nothing)
       (ended (closed st (seen_stmt w h (deeper depth) a st).state)
-      (beside (check (not (depth == 4)) at (TooMany Loops))
+      (beside (many_loops depth at)
       (over_two (over (seen c (in_body w h st.held)) condition_of) (seen_stmt w h (deeper depth) a st).is (λ x p. Stands (One (s.While x (as_stmt p)))))))
   seen_stmt w h depth (gives_back at a) st = skipped (is_full st) st (Stands nothing) (ended st (returned w h st at a))
   seen_stmt w h depth (local mods kind ds) st = skipped (is_full st) st (Stands nothing) (seen_local w h mods kind ds st)

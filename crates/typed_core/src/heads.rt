@@ -1,7 +1,7 @@
 ghost use Rattle.std.specs.Prelude.{◌≡◌, ◌∷◌, ◌++◌, [], map, option_map, OnOk, IfOk};
 ghost use Rattle.java_tree.specs.Seen.{class_tree, classes_tree, method_tree, param_tree, part_tree};
 ghost use Rattle.typed_expressions.specs.Faults.{soonest};
-ghost use Rattle.typed_core.specs.Heads.{bare_world as bare_world_lem, class_names as class_names_lem, field_known as field_known_lem, here_in as here_in_lem, here_of as here_of_lem, is_default as is_default_lem, is_object_type as is_object_type_lem, method_known as method_known_lem, next as next_lem, param_known as param_known_lem, params_faults, result_known as result_known_lem, type_faults, type_sort as type_sort_lem, typed_faults, with_classes, with_field, with_method, with_part, with_parts, world_of};
+ghost use Rattle.typed_core.specs.Heads.{bare_world as bare_world_lem, class_names as class_names_lem, field_known as field_known_lem, here_in as here_in_lem, here_of as here_of_lem, is_default as is_default_lem, is_object_type as is_object_type_lem, method_known as method_known_lem, next as next_lem, param_faults, param_known as param_known_lem, params_faults, result_known as result_known_lem, type_faults, type_sort as type_sort_lem, typed_faults, with_classes, with_field, with_method, with_part, with_parts, world_of};
 
 use crate::modifiers::{first_places, is_nullable, modifier_fault, nullness_fault};
 use java_tree::{ClassTree, Ident, Member, MethodTree, Modifier, ParamTree, Tree, TypeTree};
@@ -326,7 +326,25 @@ pub(crate) fn here_in<'k>(alloc: Global, owner: usize) -> Here<'k>
     }
 }
 
-/// The fault of parameters among themselves.
+/// The fault of a parameter behind those of these names.
+#[tactic(auto, using(crate::proofs::Lists::leaves))]
+fn param_fault(classes: &Names<'_>, before: &Names<'_>, param: &ParamTree) -> Option<Fault>
+    ensures { result ≡ soonest (param_faults classes.now before.now (param_tree param.now)) }
+{
+    let fresh = before.place(0, param.name.text.bytes()).is_none();
+    let twice = unless(fresh, param.name.at, Cause::Twice);
+    let many = unless(
+        before.len() != 8,
+        param.name.at,
+        Cause::TooMany(Many::Params),
+    );
+    earlier(
+        typed_fault(classes, param.mods.as_slice(), &param.kind),
+        earlier(twice, many),
+    )
+}
+
+/// The fault of parameters.
 pub(crate) fn params_fault(
     alloc: Global,
     classes: &Names<'_>,
@@ -337,17 +355,8 @@ pub(crate) fn params_fault(
     let mut found = None;
     let mut before = Names::new(alloc);
     for param in params {
-        let name = param.name.text.bytes();
-        let head = typed_fault(classes, param.mods.as_slice(), &param.kind);
-        let fresh = before.place(0, name).is_none();
-        let twice = unless(fresh, param.name.at, Cause::Twice);
-        let many = unless(
-            before.len() != 8,
-            param.name.at,
-            Cause::TooMany(Many::Params),
-        );
-        found = earlier(found, earlier(head, earlier(twice, many)));
-        before.push(0, name)?;
+        found = earlier(found, param_fault(classes, &before, param));
+        before.push(0, param.name.text.bytes())?;
     }
     Ok(found)
 }

@@ -260,7 +260,7 @@ fn giving(
 }
 
 /// The clauses of a method.
-#[tactic(auto, using(crate::proofs::Parts::clause_lists))]
+
 fn clauses(
     alloc: Global,
     world: &World<'_>,
@@ -326,7 +326,10 @@ fn result_fault(world: &World<'_>, mods: &[Modifier], kind: &Option<TypeTree>) -
     ensures { result ≡ soonest (result_faults world.now mods.now kind.now) }
 {
     match kind {
-        None => earlier(modifier_fault(mods), nullness_fault(false, first_places(mods))),
+        None => earlier(
+            modifier_fault(mods),
+            nullness_fault(false, first_places(mods)),
+        ),
         Some(kind) => typed_fault(&world.classes, mods, kind),
     }
 }
@@ -518,7 +521,7 @@ fn with_made(
 }
 
 /// The members of a class, behind so many of the classes before.
-#[tactic(auto, using(crate::proofs::Parts::part_lists))]
+
 pub(crate) fn all_members(
     alloc: Global,
     world: &World<'_>,

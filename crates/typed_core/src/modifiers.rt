@@ -1,6 +1,6 @@
 ghost use Rattle.std.specs.Prelude.{◌≡◌};
 ghost use Rattle.typed_expressions.specs.Faults.{soonest};
-ghost use Rattle.typed_core.specs.Modifiers.{is_nullable as is_nullable_lem, kinds_at as kinds_at_lem, marked as marked_lem, marks_of, modifier_faults, no_marks as no_marks_lem, nullness_faults, opposed as opposed_lem, or_first as or_first_lem, place_of as place_of_lem, repeated_from};
+ghost use Rattle.typed_core.specs.Modifiers.{is_nullable as is_nullable_lem, kinds_at as kinds_at_lem, marked as marked_lem, marks_of, modifier_faults, no_marks as no_marks_lem, nullness_faults, opposed as opposed_lem, or_first as or_first_lem, place_of as place_of_lem, repeated_at, repeated_from};
 
 use java_tree::{ModWord, Modifier};
 use typed_expressions::{Cause, Fault, earlier, unless};
@@ -76,6 +76,18 @@ pub(crate) fn first_places(mods: &[Modifier]) -> Marks
     marks
 }
 
+/// The fault of a modifier that is among these.
+#[tactic(auto, using(crate::proofs::Lists::leaves))]
+fn repeats(marks: Marks, modifier: &Modifier) -> Option<Fault>
+    ensures { result ≡ soonest (repeated_at marks modifier.now) }
+{
+    unless(
+        place_of(marks, modifier.word).is_none(),
+        modifier.at,
+        Cause::Twice,
+    )
+}
+
 /// The fault of a modifier that is there already.
 fn repeated(mods: &[Modifier]) -> Option<Fault>
     ensures { result ≡ soonest (repeated_from no_marks_lem mods.now) }
@@ -83,8 +95,7 @@ fn repeated(mods: &[Modifier]) -> Option<Fault>
     let mut found = None;
     let mut marks = no_marks();
     for modifier in mods {
-        let fresh = place_of(marks, modifier.word).is_none();
-        found = earlier(found, unless(fresh, modifier.at, Cause::Twice));
+        found = earlier(found, repeats(marks, modifier));
         marks = marked(marks, modifier.word, modifier.at);
     }
     found

@@ -1,12 +1,12 @@
 ghost use Rattle.std.specs.Prelude.{◌≡◌, ◌≤◌, ◌∷◌, ◌++◌, [], length, map, option_map, None, Some, IfOk, OnOk};
 ghost use Rattle.java_tree.specs.Seen.{decl_tree, java_tree, stmt_tree, stmt_trees};
 ghost use Rattle.typed_expressions.specs.Faults.{soonest};
-ghost use Rattle.typed_expressions.specs.Seen.{told, on, on_two, Stands};
+ghost use Rattle.typed_expressions.specs.Seen.{told, on, on_two, over, over_two, Stands};
 ghost use Rattle.taco_unit.specs.declared.stmt.Stmt.TheVariants as s;
-ghost use Rattle.typed_expressions.specs.Expressions.{in_body, seen};
+ghost use Rattle.typed_expressions.specs.Expressions.{in_body, seen, seen_call, seen_target};
 ghost use Rattle.typed_core.specs.Held.{state_of};
-ghost use Rattle.typed_core.specs.Statements.{as_list as as_list_lem, as_stmt as as_stmt_lem, assigned as assigned_lem, branch, condition_of, counted as counted_lem, first_set as first_set_lem, first_value as first_value_lem, given_faults, initial as initial_lem, nothing as nothing_lem, return_none as return_none_lem, return_of, run_of, seen_body, seen_decl, seen_decls, seen_local, seen_stmt, seen_stmts, set_of, step_of};
-ghost use Rattle.typed_core.specs.Reported.{first_reported, return_reported};
+ghost use Rattle.typed_core.specs.Statements.{as_list as as_list_lem, as_stmt as as_stmt_lem, assigned as assigned_lem, branch, closed, condition_of, deeper, many_loops, returned, counted as counted_lem, first_set as first_set_lem, first_value as first_value_lem, given_faults, initial as initial_lem, nothing as nothing_lem, return_none as return_none_lem, return_of, run_of, seen_body, seen_decl, seen_decls, seen_local, seen_stmt, seen_stmts, set_of, step_of};
+ghost use Rattle.typed_core.specs.Reported.{first_reported, if_told, return_reported, while_told};
 
 use crate::heads::{type_sort, typed_fault};
 use crate::locals::{Locals, close, declare, is_full, local_fault, no_locals, number_of};
@@ -323,7 +323,6 @@ fn with_stmt(
 }
 
 /// Locals that are declared: one assignment for each.
-#[tactic(auto, using(crate::proofs::Forms::decl_lists))]
 fn declarations(
     alloc: Global,
     world: &World<'_>,
@@ -460,9 +459,127 @@ fn repeated(
     }
 }
 
+/// A `return`.
+#[tactic(auto, using(crate::proofs::Forms::returns))]
+fn return_stmt(
+    alloc: Global,
+    world: &World<'_>,
+    here: &Here<'_>,
+    locals: &Locals,
+    at: u32,
+    value: &Option<JavaTree>,
+) -> Result<Result<Piece, Fault>, NoMemory>
+    ensures { IfOk result (λ r. r ≡ told (returned world.now here.now (state_of locals.now) at (option_map java_tree value.now))) }
+{
+    let value = value_at(alloc, world, here, locals, value)?;
+    Ok(returning(here.result, at, value))
+}
+
+/// An assignment.
+#[tactic(auto, using(crate::proofs::Lists::parts))]
+fn set_stmt(
+    alloc: Global,
+    world: &World<'_>,
+    here: &Here<'_>,
+    locals: &Locals,
+    place: &JavaTree,
+    value: &JavaTree,
+) -> Result<Result<Piece, Fault>, NoMemory>
+    ensures { let sc = in_body world.now here.now locals.now.held.items in IfOk result (λ r. r ≡ told (over_two (seen_target (java_tree place.now) sc) (seen (java_tree value.now) sc) set_of)) }
+{
+    let place = target(alloc, world, here, locals.held.as_slice(), place)?;
+    let value = java(alloc, world, here, locals.held.as_slice(), value)?;
+    Ok(assignment(place, value))
+}
+
+/// `++` or `--`.
+#[tactic(auto, using(crate::proofs::Lists::parts))]
+fn step_stmt(
+    alloc: Global,
+    world: &World<'_>,
+    here: &Here<'_>,
+    locals: &Locals,
+    place: &JavaTree,
+    up: bool,
+) -> Result<Result<Piece, Fault>, NoMemory>
+    ensures { IfOk result (λ r. r ≡ told (over (seen_target (java_tree place.now) (in_body world.now here.now locals.now.held.items)) (step_of up))) }
+{
+    let place = target(alloc, world, here, locals.held.as_slice(), place)?;
+    Ok(counting(up, place))
+}
+
+/// A call that stands alone.
+#[tactic(auto, using(crate::proofs::Lists::parts))]
+fn run_stmt(
+    alloc: Global,
+    world: &World<'_>,
+    here: &Here<'_>,
+    locals: &Locals,
+    run: &JavaTree,
+) -> Result<Result<Piece, Fault>, NoMemory>
+    ensures { IfOk result (λ r. r ≡ told (over (seen_call (java_tree run.now) (in_body world.now here.now locals.now.held.items)) run_of)) }
+{
+    let run = call(alloc, world, here, locals.held.as_slice(), run)?;
+    Ok(running(run))
+}
+
+/// An `if` without `else`: its statement, and its condition.
+#[cycle(body)]
+fn if_stmt(
+    alloc: Global,
+    world: &World<'_>,
+    here: &Here<'_>,
+    depth: usize,
+    locals: &mut Locals,
+    then: &StmtTree,
+    test: &JavaTree,
+) -> Result<Result<Piece, Fault>, NoMemory>
+    requires { depth ≤ 5 }
+    ensures state { OnOk result (state_of locals.new ≡ closed (state_of locals.old) (seen_stmt world.now here.now depth (stmt_tree then.now) (state_of locals.old)).state) }
+    ensures is { IfOk result (λ r. r ≡ if_told (told (seen (java_tree test.now) (in_body world.now here.now locals.old.held.items))) (told (seen_stmt world.now here.now depth (stmt_tree then.now) (state_of locals.old)).is)) }
+{
+    let held = locals.held.len();
+    let test = condition_at(alloc, world, here, locals, test)?;
+    let then = stmt(alloc, world, here, depth, locals, then)?;
+    close(locals, held);
+    if_only(alloc, test, then)
+}
+
+/// A `while`: its statement, its place and its condition.
+#[cycle(body)]
+fn while_stmt(
+    alloc: Global,
+    world: &World<'_>,
+    here: &Here<'_>,
+    depth: usize,
+    locals: &mut Locals,
+    body: &StmtTree,
+    at: u32,
+    test: &JavaTree,
+) -> Result<Result<Piece, Fault>, NoMemory>
+    requires { depth ≤ 5 }
+    ensures state { OnOk result (state_of locals.new ≡ closed (state_of locals.old) (seen_stmt world.now here.now (deeper depth) (stmt_tree body.now) (state_of locals.old)).state) }
+    ensures is { IfOk result (λ r. r ≡ while_told depth at (told (seen (java_tree test.now) (in_body world.now here.now locals.old.held.items))) (told (seen_stmt world.now here.now (deeper depth) (stmt_tree body.now) (state_of locals.old)).is)) }
+{
+    let held = locals.held.len();
+    let test = condition_at(alloc, world, here, locals, test)?;
+    let inner = (depth + 1).min(5);
+    let body = stmt(alloc, world, here, inner, locals, body)?;
+    close(locals, held);
+    let whole = repeated(alloc, test, body)?;
+    Ok(beside(loops_fault(depth, at), whole))
+}
+
+/// The fault of the first loop beyond the limit.
+#[tactic(auto, using(crate::proofs::Lists::leaves))]
+fn loops_fault(depth: usize, at: u32) -> Option<Fault>
+    ensures { result ≡ soonest (many_loops depth at) }
+{
+    unless(depth != 4, at, Cause::TooMany(Many::Loops))
+}
+
 /// A statement inside so many loops: what it becomes, or its fault. The locals are those behind it.
 #[cycle(body)]
-#[tactic(auto, using(crate::proofs::Forms::statements))]
 fn stmt(
     alloc: Global,
     world: &World<'_>,
@@ -478,21 +595,17 @@ fn stmt(
     if is_full(locals) {
         return Ok(Ok(nothing(alloc)));
     }
-    let held = locals.held.len();
     match tree {
         StmtTree::Block(list) => {
+            let held = locals.held.len();
             let list = stmts(alloc, world, here, depth, locals, list.as_slice())?;
             close(locals, held);
             Ok(block(list))
         }
         StmtTree::Empty => Ok(Ok(nothing(alloc))),
-        StmtTree::If(test, then, None) => {
-            let test = condition_at(alloc, world, here, locals, test)?;
-            let then = stmt(alloc, world, here, depth, locals, then)?;
-            close(locals, held);
-            if_only(alloc, test, then)
-        }
+        StmtTree::If(test, then, None) => if_stmt(alloc, world, here, depth, locals, then, test),
         StmtTree::If(test, then, Some(other)) => {
+            let held = locals.held.len();
             let test = condition_at(alloc, world, here, locals, test)?;
             let then = stmt(alloc, world, here, depth, locals, then)?;
             close(locals, held);
@@ -501,18 +614,9 @@ fn stmt(
             if_else(alloc, under(test, then), other)
         }
         StmtTree::While(at, test, body) => {
-            let test = condition_at(alloc, world, here, locals, test)?;
-            let inner = (depth + 1).min(5);
-            let body = stmt(alloc, world, here, inner, locals, body)?;
-            close(locals, held);
-            let many = unless(depth != 4, *at, Cause::TooMany(Many::Loops));
-            let whole = repeated(alloc, test, body)?;
-            Ok(beside(many, whole))
+            while_stmt(alloc, world, here, depth, locals, body, *at, test)
         }
-        StmtTree::Return(at, value) => {
-            let value = value_at(alloc, world, here, locals, value)?;
-            Ok(returning(here.result, *at, value))
-        }
+        StmtTree::Return(at, value) => return_stmt(alloc, world, here, locals, *at, value),
         StmtTree::Local(mods, kind, decls) => local(
             alloc,
             world,
@@ -522,25 +626,14 @@ fn stmt(
             kind,
             decls.as_slice(),
         ),
-        StmtTree::Set(place, value) => {
-            let place = target(alloc, world, here, locals.held.as_slice(), place)?;
-            let value = java(alloc, world, here, locals.held.as_slice(), value)?;
-            Ok(assignment(place, value))
-        }
-        StmtTree::Step(place, up) => {
-            let place = target(alloc, world, here, locals.held.as_slice(), place)?;
-            Ok(counting(*up, place))
-        }
-        StmtTree::Run(run) => {
-            let run = call(alloc, world, here, locals.held.as_slice(), run)?;
-            Ok(running(run))
-        }
+        StmtTree::Set(place, value) => set_stmt(alloc, world, here, locals, place, value),
+        StmtTree::Step(place, up) => step_stmt(alloc, world, here, locals, place, *up),
+        StmtTree::Run(run) => run_stmt(alloc, world, here, locals, run),
     }
 }
 
 /// Statements, one behind the other.
 #[cycle(body)]
-#[tactic(auto, using(crate::proofs::Forms::statements))]
 fn stmts(
     alloc: Global,
     world: &World<'_>,
