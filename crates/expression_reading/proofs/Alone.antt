@@ -1,22 +1,16 @@
 -- The machine of the expression of a clause by itself.
-use Rattle.std.proofs.Common.{◌≡◌, ℕ, ◌+◌, ◌-◌, ◌<◌, suc, Bool, true, false, List, [], ◌∷◌, ◌++◌, length, map, refl, sym, ◌∙◌, ap, subst, arith}
-use Rattle.java_lex.specs.declared.spelling.Terminal.{Terminal}
-use Rattle.java_lex.specs.declared.spelling.Terminal.TheVariants as terminal
+use Rattle.std.proofs.Common.{◌≡◌, ℕ, ◌-◌, Bool, true, List, [], ◌∷◌, map, refl, ◌∙◌, ap, arith}
 use Rattle.java_lex.specs.declared.token.Token.{Token}
-use Rattle.java_lex.specs.Terminals.{terminal_of}
 use Rattle.java_tree.specs.Trees.{Expr}
-use Rattle.java_tree.specs.Phrases.{Phrase, Limit}
-use Rattle.java_tree.specs.Expressions.{predicate, whole}
-use Rattle.java_tree.specs.Reading.{within}
+use Rattle.java_tree.specs.Expressions.{predicate}
 use Rattle.java_tree.proofs.Fronts.{some_predicate_grows}
-use Rattle.reading_core.specs.Read.{Got, OnGot, on, at_side}
-use Rattle.reading_core.specs.Machine.{Test, Act, Take, Open, Leave, Refuse, run}
+use Rattle.reading_core.specs.Read.{Got, OnGot}
+use Rattle.reading_core.specs.Machine.{Test, Act, run}
 use Rattle.reading_core.specs.Follow.{follow}
-use Rattle.reading_core.specs.Deeper.{always}
 use Rattle.reading_core.specs.Endings.{Endings, quiet_token}
-use Rattle.reading_core.specs.Exact.{Decided, Counts, up_to_64}
+use Rattle.reading_core.specs.Exact.{Decided, Counts}
 use Rattle.reading_core.proofs.ReadLaws.{on_weaken}
-use Rattle.reading_core.proofs.Keeps.{Keeps, predicate_keeps}
+use Rattle.reading_core.proofs.Keeps.{predicate_keeps}
 use Rattle.reading_core.proofs.Instance.{Owes}
 use Rattle.expression_reading.specs.Reading.{below, operand_in, expression_in}
 use Rattle.expression_reading.specs.Wants.{Want, Operand, is_ready, reacts}
@@ -25,7 +19,7 @@ use Rattle.expression_reading.proofs.Endings.{want_falls, want_quiets, want_leav
 use Rattle.expression_reading.proofs.Sound.{operand_sound, Some_}
 use Rattle.expression_reading.proofs.Sim.{operand_sim}
 use Rattle.expression_reading.proofs.Below.{below_sound, below_sim}
-use Rattle.expression_reading.proofs.Complete.{At, complete}
+use Rattle.expression_reading.proofs.Complete.{complete}
 
 -- what is awaited, by itself
 abbrev pub alone : Want → Want
