@@ -2,3 +2,5 @@ pub mod SymbolLemmas
 pub mod Chains
 pub mod OneCut
 pub mod Longest
+pub mod Written
+pub mod Notes
