@@ -1,17 +1,18 @@
 -- Spaces between words, and annotations round them, as pieces of a text.
-use Rattle.std.proofs.Common.{◌≡◌, ℕ, suc, ◌+◌, ◌==◌, ◌&&◌, cond, Bool, true, false, not, List, [], ◌∷◌, ◌++◌, length, take, drop, Option, Some, None, option_map, nat_lt, nat_eq, refl, sym, ap, ◌∙◌, subst, arith, codes}
+use Rattle.std.proofs.Common.{◌≡◌, ℕ, suc, ◌+◌, ◌<◌, ◌==◌, ◌&&◌, cond, Bool, true, false, not, List, [], ◌∷◌, ◌++◌, length, take, drop, Some, option_map, nat_lt, nat_eq, refl, sym, ap, ◌∙◌, subst, arith}
 use Rattle.std.proofs.lemmas.Bool.Decides.{nat_tests}
-use Rattle.std.specs.List.{list_all, list_any, prefix_len, starts_with}
+use Rattle.std.specs.List.{list_all, list_any, prefix_len}
 use Rattle.java_lex.specs.declared.front.Front.{Front}
 use Rattle.java_lex.specs.declared.front.Front.TheVariants.{Gap}
 use Rattle.java_lex.specs.declared.front.Outside.{Outside}
 use Rattle.java_lex.specs.declared.front.Outside.TheVariants.{Plain, Note}
 use Rattle.java_lex.specs.declared.token.Token.{Token}
-use Rattle.java_lex.specs.Bytes.{is_white, is_line_end, is_at}
+use Rattle.java_lex.specs.Bytes.{is_white, is_line_end, is_at, begins_word, continues_word}
+use Rattle.std.specs.Char.{is_ascii_digit}
 use Rattle.java_lex.specs.Literals.{first_close}
 use Rattle.java_lex.specs.Fronts.{token_front, gap_len, front_in, front_out, block_front}
 use Rattle.java_lex.specs.Cut.{IsPlain, IsInside, IsNote, IsOutside, IsPiece}
-use Rattle.java_lex.proofs.Written.{Begins, front_inside, take_first, and_left, and_right, pick, take_all}
+use Rattle.java_lex.proofs.Written.{Begins, front_inside, take_first, and_left, and_right, pick, take_all, no_white, word_begins, digit_begins, IsWordText, IsNumberText, none_empty}
 
 -- a text that begins so
 abbrev pub Starts : List ℕ → Type 0
@@ -79,3 +80,40 @@ note_piece at content rest tokens all note = subst (λ (o : Outside). IsOutside 
     front : front_out (47 ∷ 42 ∷ 64 ∷ (content ++ 42 ∷ 47 ∷ rest)) ≡ Note (length (64 ∷ content)) (4 + length (64 ∷ content)) true
     front = ap (λ o. block_front (64 ∷ (content ++ 42 ∷ 47 ∷ rest)) o) (close_behind (64 ∷ content) rest all)
         ∙ ap (λ (body : List ℕ). Note (suc (length body)) (4 + suc (length content)) true) (take_all content (42 ∷ 47 ∷ rest))
+
+-- WORDS AND NUMBERS
+
+all_inner : (p : ℕ → Bool) → ((b : ℕ) → p b ≡ true → is_inner b ≡ true) → (bs : List ℕ) → list_all p bs ≡ true → list_all is_inner bs ≡ true
+all_inner p one [] all = refl
+all_inner p one (b ∷ bs) all = ap (λ c. c && list_all is_inner bs) (one b (and_left (p b) _ all)) ∙ all_inner p one bs (and_right (p b) _ all)
+
+continues_inner : (b : ℕ) → continues_word b ≡ true → is_inner b ≡ true
+continues_inner b is = grind (arith, nat_tests, is)
+
+begins_inner : (b : ℕ) → begins_word b ≡ true → is_inner b ≡ true
+begins_inner b is = grind (arith, nat_tests, is)
+
+digit_inner : (b : ℕ) → is_ascii_digit b ≡ true → is_inner b ≡ true
+digit_inner b is = grind (arith, nat_tests, is)
+
+-- Bytes that are some, begin with no white space and have no `/`.
+pub record IsSolid (bytes : List ℕ) : Type 0 where
+  pub some : 0 < length bytes
+  pub solid : (rest : List ℕ) → prefix_len is_white (bytes ++ rest) ≡ 0
+  pub inner : list_all is_inner bytes ≡ true
+
+pub word_solid : (bytes : List ℕ) → IsWordText bytes → IsSolid bytes
+word_solid [] is = absurd is
+word_solid (b ∷ bs) (begins, all) = record {
+  some = omega arith;
+  solid = λ rest. no_white b (bs ++ rest) (word_begins b begins).white;
+  inner = ap (λ c. c && list_all is_inner bs) (begins_inner b begins) ∙ all_inner continues_word continues_inner bs all;
+}
+
+pub number_solid : (n : ℕ) (bytes : List ℕ) → IsNumberText n bytes → IsSolid bytes
+number_solid n [] is = absurd (none_empty n is)
+number_solid n (d ∷ ds) is = record {
+  some = omega arith;
+  solid = λ rest. no_white d (ds ++ rest) (digit_begins d (and_left (is_ascii_digit d) _ is.digits.all)).white;
+  inner = all_inner is_ascii_digit digit_inner (d ∷ ds) is.digits.all;
+}

@@ -1,8 +1,8 @@
 -- Words and numbers of a text, written again with a space behind them, are cut as they were.
 use Rattle.std.proofs.Common.{◌≡◌, ℕ, suc, ◌+◌, ◌-◌, ◌*◌, ◌/◌, ◌%◌, ◌<◌, ◌≤◌, ◌==◌, ◌&&◌, ◌||◌, cond, Bool, true, false, not, List, [], ◌∷◌, ◌++◌, length, take, drop, Option, Some, None, option_map, nat_lt, nat_eq, refl, sym, ap, ◌∙◌, subst, arith, codes, ◌^◌, get_or}
-use Rattle.std.proofs.lemmas.Bool.{ne_eqb, eqb-true, eq-eqb, lt-leb}
+use Rattle.std.proofs.lemmas.Bool.{ne_eqb}
 use Rattle.std.proofs.lemmas.Bool.Decides.{nat_tests}
-use Rattle.std.proofs.lemmas.Fmt.{decimal_by_steps, first_decimal, decimal_digit, decimal_nonempty}
+use Rattle.std.proofs.lemmas.Fmt.{decimal_by_steps, first_decimal}
 use Rattle.std.specs.Fmt.{decimal}
 use Rattle.std.specs.List.{list_all, list_any, prefix_len, starts_with}
 use Rattle.std.specs.Char.{is_ascii_digit}
@@ -48,7 +48,7 @@ pub record Begins (b : ℕ) : Type 0 where
   pub sign : is_at b ≡ false
   pub slash : nat_eq 47 b ≡ false
 
-no_white : (b : ℕ) (bs : List ℕ) → is_white b ≡ false → prefix_len is_white (b ∷ bs) ≡ 0
+pub no_white : (b : ℕ) (bs : List ℕ) → is_white b ≡ false → prefix_len is_white (b ∷ bs) ≡ 0
 no_white b bs is = pick (is_white b) _ _ is
 
 no_slash : (b : ℕ) (more : Bool) → nat_eq 47 b ≡ false → (nat_eq 47 b && more) ≡ false
@@ -77,10 +77,10 @@ prefix_all p [] rest all stop = pick (p 32) _ _ stop
 prefix_all p (b ∷ bs) rest all stop =
     take_first (p b) _ _ (and_left (p b) _ all) ∙ ap (λ n. 1 + n) (prefix_all p bs rest (and_right (p b) _ all) stop) ∙ sym (suc_one (length bs))
 
-word_begins : (b : ℕ) → begins_word b ≡ true → Begins b
+pub word_begins : (b : ℕ) → begins_word b ≡ true → Begins b
 word_begins b is = record { white = grind (arith, nat_tests, is); sign = grind (arith, nat_tests, is); slash = grind (arith, nat_tests, is) }
 
-digit_begins : (b : ℕ) → is_ascii_digit b ≡ true → Begins b
+pub digit_begins : (b : ℕ) → is_ascii_digit b ≡ true → Begins b
 digit_begins b is = record { white = grind (arith, nat_tests, is); sign = grind (arith, nat_tests, is); slash = grind (arith, nat_tests, is) }
 
 digit_no_word : (b : ℕ) → is_ascii_digit b ≡ true → begins_word b ≡ false
@@ -209,7 +209,7 @@ pub record IsNumberText (n : ℕ) (bytes : List ℕ) : Type 0 where
 pub decimal_text : (n : ℕ) → n ≤ 2147483647 → IsNumberText n (decimal n)
 decimal_text n low = record { digits = decimal_digits n (omega arith); low = low; more = λ high. first_decimal n (omega arith) (omega arith) }
 
-none_empty : (n : ℕ) → IsNumberText n [] → ⊥
+pub none_empty : (n : ℕ) → IsNumberText n [] → ⊥
 none_empty n is =
     let zero_is : Some 0 ≡ Some n = is.digits.value is.low in
     let same : 0 ≡ n = cc in

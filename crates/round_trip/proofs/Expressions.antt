@@ -1,19 +1,18 @@
 -- Expressions, printed and read again.
 use Rattle.std.proofs.Common.{◌≡◌, ℕ, ◌≤◌, ◌==◌, Bool, true, false, List, [], ◌∷◌, ◌++◌, map, refl, sym, ◌∙◌, ap, subst, append_assoc, arith, lit≤}
-use Rattle.java_lex.specs.declared.spelling.Terminal.TheVariants as terminal
 use Rattle.java_lex.specs.declared.token.TokenKind.TheVariants as kind
 use Rattle.java_lex.specs.declared.token.Token.{Token}
 use Rattle.java_tree.specs.declared.expressions.Sign.{Sign}
 use Rattle.java_tree.specs.declared.expressions.Sign.TheVariants.{Add, Sub, Mul, Eq, Ne, Lt, Le, Gt, Ge, And, Or, Implies, Iff}
 use Rattle.java_tree.specs.declared.names.Ident.{Ident}
 use Rattle.java_tree.specs.Trees.{Expr, num, flag, null, this, outcome, make, named, call, read, call_on, paren, negation, minus, bin, old, quant, quant_in, has, size, Exprs, none, also}
-use Rattle.java_tree.specs.Phrases.{Phrase, one, name}
+use Rattle.java_tree.specs.Phrases.{Phrase, one}
 use Rattle.java_tree.specs.Expressions.{post, unary, whole, tier_of, terminal_of_sign, left_tier, right_tier, place, is_chain, is_steps, chained, quantifier, more_fields, fields_of, bracketed, phrase, arguments, more_arguments, expression, predicate}
 use Rattle.java_tree.specs.Reading.{within}
 use Rattle.java_tree.specs.Print.{Word, sign_text, quantifier_text, behind_each, fields_written, written, args_written, more_args_written}
 use Rattle.java_lex.specs.declared.words.TheConstants.{PLUS, OPEN_PAREN, CLOSE_PAREN}
 use Rattle.round_trip.specs.Bare.{bare, bare_all, bare_name}
-use Rattle.round_trip.proofs.Redo.{Again, Fixed, thens, closes, chains, recast, given, nothing_again, opens_again, fixed, placed, name_again, number_again, word_again, two, three, four}
+use Rattle.round_trip.proofs.Redo.{Again, thens, closes, chains, recast, given, nothing_again, opens_again, fixed, placed, name_again, number_again, word_again, two, three, four}
 use Rattle.round_trip.proofs.Fixed.{true_word, false_word, null_word, this_word, open_paren, close_paren, comma, dot, semicolon, plus, minus_sign, times_sign, equal, not_equal, less, at_most, greater, at_least, and_sign, or_sign, not_sign, implies_sign, iff_sign, result_value, old_word, forall, exists, reach, has_name, size_name, new_word}
 
 -- WHAT IS THE SAME WITHOUT PLACES

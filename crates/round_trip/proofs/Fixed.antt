@@ -3,9 +3,6 @@ use Rattle.std.proofs.Common.{ℕ, ◌+◌, Bool, true, false, List, [], ◌∷�
 use Rattle.java_lex.specs.declared.spelling.Terminal.TheVariants as terminal
 use Rattle.java_lex.specs.declared.token.TokenKind.TheVariants as kind
 use Rattle.java_lex.specs.declared.words.TheConstants.{AND, ASSIGN, AT_LEAST, AT_MOST, BOOLEAN, CLASS, CLOSE_BRACE, CLOSE_PAREN, COMMA, DECREMENT, DOT, ELSE, ENSURES, EQUAL, EXISTS, FALSE, FORALL, GREATER, HAS, IF, IFF, IMPLIES, INCREMENT, INT, INT_SIZE, INVARIANT, LESS, MINUS, NEW, NON_NULL, NON_NULL_BY_DEFAULT, NOT, NOT_EQUAL, NULL, NULLABLE, NULLABLE_BY_DEFAULT, OLD, OPEN_BRACE, OPEN_PAREN, OR, PLUS, REACH, REQUIRES, RESULT_VALUE, RETURN, SEMICOLON, STATIC, THIS, TIMES, TRUE, VOID, WHILE}
-use Rattle.java_tree.specs.declared.expressions.Sign.{Sign}
-use Rattle.java_tree.specs.declared.expressions.Sign.TheVariants.{Add, Sub, Mul, Eq, Ne, Lt, Le, Gt, Ge, And, Or, Implies, Iff}
-use Rattle.java_lex.specs.declared.token.Token.{Token}
 use Rattle.java_lex.specs.declared.token.TokenKind.{TokenKind}
 use Rattle.java_lex.specs.Fronts.{token_front}
 use Rattle.java_lex.specs.Cut.{IsPlain, IsInside}

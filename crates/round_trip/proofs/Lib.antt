@@ -5,3 +5,5 @@ pub mod Expressions
 pub mod Modifiers
 pub mod Statements
 pub mod Members
+pub mod PrintedText
+pub mod ReadAgain

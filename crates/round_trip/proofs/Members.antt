@@ -1,8 +1,7 @@
 -- Members, classes and texts, printed and read again.
-use Rattle.std.proofs.Common.{◌≡◌, ◌⊎◌, inl, inr, ℕ, zero, suc, Bool, true, false, List, [], ◌∷◌, ◌++◌, map, refl, sym, ◌∙◌, ap, subst, append_assoc}
+use Rattle.std.proofs.Common.{◌≡◌, inl, inr, ℕ, zero, suc, true, false, List, [], ◌∷◌, ◌++◌, map, refl, sym, ◌∙◌, ap, subst, append_assoc}
 use Rattle.std.specs.Prelude.{Option, Some, None, option_map}
 use Rattle.std.specs.List.{flat_map}
-use Rattle.java_lex.specs.declared.spelling.Terminal.TheVariants as terminal
 use Rattle.java_lex.specs.declared.token.Token.{Token}
 use Rattle.java_lex.specs.declared.words.TheConstants.{COMMA}
 use Rattle.java_tree.specs.declared.names.Ident.{Ident}
@@ -10,12 +9,12 @@ use Rattle.java_tree.specs.declared.names.Modifier.{Modifier}
 use Rattle.java_tree.specs.declared.names.TypeTree.{TypeTree}
 use Rattle.java_tree.specs.declared.names.TypeTree.TheVariants.{Int, Flag, Class as class_type}
 use Rattle.java_tree.specs.Trees.{Stmts, Clause, needs, gives, Param, Method, Part, invariant, field, method, Class, Classes}
-use Rattle.java_tree.specs.Phrases.{Letter, Phrase, ◌▸◌, nothing, either, maybe, many, times, where_, java, jml, one, any_name, name}
+use Rattle.java_tree.specs.Phrases.{Letter, Phrase, ◌▸◌, nothing, either, maybe, many, times, one, name}
 use Rattle.java_tree.specs.Statements.{is_local_modifier, modifiers, type_of}
 use Rattle.java_tree.specs.Members.{is_class_modifier, is_modifier, is_method_modifier, visibility, parameter, more_parameters, parameters, result_of, Written, empty, one_part, fields, parts_of, more_names, dotted, package_line, import_line, clause, clauses, some_clauses, specification, procedure, part, member, members, class_body, class, classes, unit}
 use Rattle.java_tree.specs.Reading.{within}
 use Rattle.java_tree.specs.Print.{Word, word, symbol, type_text, clause_written, param_written, params_written, result_text, method_written, part_written, class_written, tree_written, modifiers_written}
-use Rattle.round_trip.specs.Bare.{bare, bare_name, bare_modifier, bare_type, bare_clause, bare_parameter, bare_method, bare_part, bare_class, bare_classes, bare_statements}
+use Rattle.round_trip.specs.Bare.{bare_name, bare_modifier, bare_type, bare_clause, bare_parameter, bare_method, bare_part, bare_class, bare_classes, bare_statements}
 use Rattle.round_trip.proofs.Spells.{Known}
 use Rattle.round_trip.proofs.Redo.{Redo, Again, thens, closes, recast, given, nothing_again, fixed, placed, name_again, two, three, redo_thens, redo_recast, redo_fixed, known_rest}
 use Rattle.round_trip.proofs.Fixed.{open_paren, close_paren, semicolon, comma, open_brace, close_brace, class_word, void_word, requires_word, ensures_word, invariant_word}
@@ -260,8 +259,7 @@ members_again (fields mods t i is ∷ ws) = record { again = by (members_again w
 body_again : (ps : List Part) → Again (List Part) (flat_map part_written ps) (class_body within ps) (class_body within) (λ qs. map bare_part qs ≡ map bare_part ps)
 body_again ps = record {
   again = λ l ts k rest known (ws, is, x).
-      let (known', f) = (members_again ws).again l ts k rest known x in
-      (
+      let (known', f) = (members_again ws).again l ts k rest known x in (
         known',
         redo_recast f (λ vs. flat_map parts_of vs) (ap (λ qs. flat_map part_written qs) (sym is)) (λ vs s. s ∙ ap (λ qs. map bare_part qs) (sym is)) (λ vs s l ts k rest y. (vs, refl, y)),
       );

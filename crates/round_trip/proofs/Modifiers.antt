@@ -1,21 +1,20 @@
 -- Modifiers, printed and read again: they stand in a tree in one order, so reading them again keeps it.
-use Rattle.std.proofs.Common.{◌≡◌, ℕ, suc, ◌≤◌, ◌<◌, ◌==◌, Bool, true, false, List, [], ◌∷◌, ◌++◌, map, refl, sym, ◌∙◌, ap, subst, arith, lit≤, lit<, cond, ◌&&◌}
+use Rattle.std.proofs.Common.{◌≡◌, ℕ, ◌≤◌, ◌<◌, ◌==◌, Bool, true, false, List, [], ◌∷◌, ◌++◌, map, refl, sym, ◌∙◌, ap, subst, arith, lit≤, lit<, cond, ◌&&◌}
 use Rattle.std.proofs.lemmas.Bool.{eqb-true}
-use Rattle.std.specs.Prelude.{Option, Some, None, option_map, IsTrue, filter}
-use Rattle.std.specs.List.{list_all, filter_map, flat_map, cons_option}
+use Rattle.std.specs.Prelude.{Option, Some, None, option_map, filter}
+use Rattle.std.specs.List.{list_all, filter_map, cons_option}
 use Rattle.java_lex.specs.declared.spelling.Terminal.TheVariants as terminal
 use Rattle.java_lex.specs.declared.token.Token.{Token}
-use Rattle.java_lex.specs.declared.token.TokenKind.{TokenKind}
 use Rattle.java_lex.specs.Terminals.{terminal_of_kind}
 use Rattle.java_tree.specs.declared.names.ModWord.{ModWord}
 use Rattle.java_tree.specs.declared.names.ModWord.TheVariants.{Static, Nullable, NonNull, NullableByDefault, NonNullByDefault}
 use Rattle.java_tree.specs.declared.names.Modifier.{Modifier}
 use Rattle.java_tree.specs.Phrases.{Letter, letter}
 use Rattle.java_tree.specs.Statements.{kept_word, kept, rank, in_order, modifiers}
-use Rattle.java_tree.specs.Print.{Word, modifier_word, modifiers_written}
+use Rattle.java_tree.specs.Print.{modifier_word, modifiers_written}
 use Rattle.round_trip.specs.Bare.{bare_modifier}
 use Rattle.round_trip.proofs.Spells.{Spells, Spellable, AllSpellable, Known}
-use Rattle.round_trip.proofs.Redo.{Fixed, Redo, Again, two}
+use Rattle.round_trip.proofs.Redo.{Again, two}
 use Rattle.round_trip.proofs.Fixed.{static_word, nullable_word, non_null_word, nullable_default, non_null_default}
 
 pub known_behind : (front rest : List Token) → Known (front ++ rest) → Known rest
@@ -215,14 +214,12 @@ module _ (allowed : Letter → Bool) where
     again = λ l ts k rest known (front, parts, all, is, level).
         let kept_mods = filter_map kept front in
         let a : All_allowed mods = subst All_allowed (sym is) (allowed_in_order kept_mods (allowed_kept front all)) in
-        let up : Rises 0 mods = subst (Rises 0) (sym is) (in_order_rises kept_mods) in
-        (
+        let up : Rises 0 mods = subst (Rises 0) (sym is) (in_order_rises kept_mods) in (
           known_behind front rest (subst Known parts known),
           record {
             good = words_spell mods;
             redo = λ us end spelled.
-                let r = redone mods 0 a up us end spelled in
-                (
+                let r = redone mods 0 a up us end spelled in (
                   r.mods_again,
                   r.same,
                   (r.front, r.parts, r.all, sym (rises_ordered 0 r.mods_again r.up) ∙ ap in_order (sym r.kept_so), level),

@@ -7,11 +7,11 @@ use Rattle.java_lex.specs.declared.token.TokenKind.{TokenKind}
 use Rattle.java_lex.specs.declared.token.TokenKind.TheVariants as kind
 use Rattle.java_lex.specs.Terminals.{terminal_of_kind}
 use Rattle.java_tree.specs.declared.names.Ident.{Ident}
-use Rattle.java_tree.specs.Phrases.{Letter, letter, text_of, ident_of, Phrase, ◌▸◌, nothing, where_, token, one, one_at, name, word as word_phrase, number, opens, closed}
+use Rattle.java_tree.specs.Phrases.{Letter, letter, text_of, ident_of, Phrase, ◌▸◌, nothing, where_, one, one_at, name, word as word_phrase, number, opens, closed}
 use Rattle.java_tree.specs.Expressions.{chained}
 use Rattle.java_tree.specs.Reading.{within}
 use Rattle.java_tree.specs.Print.{Word, word, number as number_word}
-use Rattle.reading_core.proofs.Tokens.{name_kind, number_kind}
+use Rattle.reading_core.proofs.Tokens.{name_kind}
 use Rattle.round_trip.specs.Bare.{bare_name}
 use Rattle.round_trip.proofs.Spells.{Spells, spells_parts, Spellable, AllSpellable, spellable_append, IsKnown, Known}
 
@@ -59,8 +59,7 @@ module _ {A : Type 0} {V : List Word} {p : Phrase} {q : A → Phrase} {S : A →
   pub closes : Again A V (closed p) (λ a. closed (q a)) S
   closes = record {
     again = λ l ts k rest known (m, x, is).
-        let (known', f') = f.again l ts m rest known x in
-        (
+        let (known', f') = f.again l ts m rest known x in (
           known',
           record {
             good = f'.good;
@@ -89,27 +88,25 @@ given f = record { again = λ l ts k rest known (is, x). (f is).again l ts k res
 -- nothing
 pub nothing_again : Again (Unit {0}) [] nothing (λ u. nothing) (λ u. Unit {0})
 nothing_again = record {
-  again = λ l ts k rest known (level, parts).
-      (
-        subst Known (sym parts) known,
-        record {
-          good = tt {0};
-          redo = λ us end spelled. (tt {0}, tt {0}, (level, sym spelled));
-        },
-      );
+  again = λ l ts k rest known (level, parts). (
+    subst Known (sym parts) known,
+    record {
+      good = tt {0};
+      redo = λ us end spelled. (tt {0}, tt {0}, (level, sym spelled));
+    },
+  );
 }
 
 -- a level that is opened
 pub opens_again : Again (Unit {0}) [] (opens within) (λ u. opens within) (λ u. Unit {0})
 opens_again = record {
-  again = λ l ts k rest known (up, may, parts).
-      (
-        subst Known (sym parts) known,
-        record {
-          good = tt {0};
-          redo = λ us end spelled. (tt {0}, tt {0}, (up, may, sym spelled));
-        },
-      );
+  again = λ l ts k rest known (up, may, parts). (
+    subst Known (sym parts) known,
+    record {
+      good = tt {0};
+      redo = λ us end spelled. (tt {0}, tt {0}, (up, may, sym spelled));
+    },
+  );
 }
 
 -- equal parts make equal wholes
@@ -150,14 +147,13 @@ fixed {side} {k} {x} so = record {
 -- at some place
 pub placed : {side : Bool} {k : TokenKind} {x : Terminal} → Fixed side k x → (at : ℕ) → Again ℕ ((side, k) ∷ []) (one_at (side, x) at) (λ n. one_at (side, x) n) (λ n. Unit {0})
 placed {side} {k} {x} so at = record {
-  again = λ l ts m rest known (t, is, parts, level).
-      (
-        (known_rest ts rest t parts known).1,
-        record {
-          good = (so.spells, tt {0});
-          redo = λ us end (u, more, here, jml_is, kind_is, ends). (u.from, tt {0}, (u, (letter_of u side k x so.is jml_is kind_is, refl), here ∙ ap (λ r. u ∷ r) ends, level));
-        },
-      );
+  again = λ l ts m rest known (t, is, parts, level). (
+    (known_rest ts rest t parts known).1,
+    record {
+      good = (so.spells, tt {0});
+      redo = λ us end (u, more, here, jml_is, kind_is, ends). (u.from, tt {0}, (u, (letter_of u side k x so.is jml_is kind_is, refl), here ∙ ap (λ r. u ∷ r) ends, level));
+    },
+  );
 }
 
 -- NAMES AND NUMBERS
@@ -177,8 +173,7 @@ name_again side i = record {
       let named = name_is side i t is same in
       let known' = known_rest ts rest t parts known in
       let jml_of : t.jml ≡ side = ap (λ (x : Letter). x.0) is in
-      let spells : Spellable (t.jml, kind.Word i.text) = subst (λ (k : TokenKind). IsKnown t.jml k) named known'.0 in
-      (
+      let spells : Spellable (t.jml, kind.Word i.text) = subst (λ (k : TokenKind). IsKnown t.jml k) named known'.0 in (
         known'.1,
         record {
           good = (subst (λ (b : Bool). Spellable (b, kind.Word i.text)) jml_of spells, tt {0});
@@ -193,8 +188,7 @@ number_again side at n = record {
   again = λ l ts m rest known (t, (is, kind_of, place_is), parts, level).
       let known' = known_rest ts rest t parts known in
       let jml_of : t.jml ≡ side = ap (λ (x : Letter). x.0) is in
-      let spells : Spellable (t.jml, kind.Number n) = subst (λ (k : TokenKind). IsKnown t.jml k) kind_of known'.0 in
-      (
+      let spells : Spellable (t.jml, kind.Number n) = subst (λ (k : TokenKind). IsKnown t.jml k) kind_of known'.0 in (
         known'.1,
         record {
           good = (subst (λ (b : Bool). Spellable (b, kind.Number n)) jml_of spells, tt {0});
@@ -207,12 +201,11 @@ number_again side at n = record {
 -- a name that is this word
 pub word_again : {side : Bool} {bytes : List ℕ} → Fixed side (kind.Word bytes) terminal.Name → Again (Unit {0}) (word side bytes) (word_phrase side bytes) (λ u. word_phrase side bytes) (λ u. Unit {0})
 word_again {side} {bytes} so = record {
-  again = λ l ts m rest known (t, is, parts, level).
-      (
-        (known_rest ts rest t parts known).1,
-        record {
-          good = (so.spells, tt {0});
-          redo = λ us end (u, more, here, jml_is, kind_is, ends). (tt {0}, tt {0}, (u, (letter_of u side (kind.Word bytes) terminal.Name so.is jml_is kind_is, kind_is), here ∙ ap (λ r. u ∷ r) ends, level));
-        },
-      );
+  again = λ l ts m rest known (t, is, parts, level). (
+    (known_rest ts rest t parts known).1,
+    record {
+      good = (so.spells, tt {0});
+      redo = λ us end (u, more, here, jml_is, kind_is, ends). (tt {0}, tt {0}, (u, (letter_of u side (kind.Word bytes) terminal.Name so.is jml_is kind_is, kind_is), here ∙ ap (λ r. u ∷ r) ends, level));
+    },
+  );
 }

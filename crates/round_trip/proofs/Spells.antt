@@ -1,5 +1,5 @@
 -- Tokens that spell words, and words that a text can hold.
-use Rattle.std.proofs.Common.{◌≡◌, ℕ, ◌+◌, ◌<◌, Bool, true, false, List, [], ◌∷◌, ◌++◌, length, refl, codes}
+use Rattle.std.proofs.Common.{◌≡◌, ℕ, ◌+◌, ◌<◌, Bool, true, false, List, [], ◌∷◌, ◌++◌, length, refl, sym, subst}
 use Rattle.std.specs.List.{list_all, prefix_len}
 use Rattle.java_lex.specs.declared.token.Token.{Token}
 use Rattle.java_lex.specs.declared.token.TokenKind.{TokenKind}
@@ -21,6 +21,10 @@ spells_parts [] w ts rest spelled = (ts, refl, spelled)
 spells_parts (x ∷ v) w ts rest (t, more, is, side, kind_is, spelled) =
     let (mid, one, two) = spells_parts v w more rest spelled in
     (mid, (t, more, is, side, kind_is, one), two)
+
+pub spells_append : (v w : List Word) (ts mid rest : List Token) → Spells v ts mid → Spells w mid rest → Spells (v ++ w) ts rest
+spells_append [] w ts mid rest one two = subst (λ (us : List Token). Spells w us rest) (sym one) two
+spells_append (x ∷ v) w ts mid rest (t, more, is, side, kind_is, one) two = (t, more, is, side, kind_is, spells_append v w more mid rest one two)
 
 -- WHAT A TEXT CAN HOLD
 

@@ -1,20 +1,18 @@
 -- Statements, printed and read again.
-use Rattle.std.proofs.Common.{◌≡◌, ℕ, Bool, true, false, List, [], ◌∷◌, ◌++◌, map, refl, sym, ◌∙◌, ap, subst, append_assoc}
-use Rattle.std.specs.Prelude.{Option, Some, None, option_map, IsTrue}
+use Rattle.std.proofs.Common.{◌≡◌, Bool, true, false, List, [], ◌∷◌, ◌++◌, map, refl, sym, ◌∙◌, ap, append_assoc}
+use Rattle.std.specs.Prelude.{Option, Some, None, option_map}
 use Rattle.std.specs.List.{flat_map}
-use Rattle.java_lex.specs.declared.token.TokenKind.TheVariants as kind
-use Rattle.java_lex.specs.declared.words.TheConstants.{INCREMENT, DECREMENT, COMMA}
+use Rattle.java_lex.specs.declared.words.TheConstants.{COMMA}
 use Rattle.java_tree.specs.declared.names.TypeTree.{TypeTree}
 use Rattle.java_tree.specs.declared.names.TypeTree.TheVariants.{Int, Flag, Class as class_type}
 use Rattle.java_tree.specs.Trees.{Expr, num, flag, null, this, outcome, make, named, call, read, call_on, paren, negation, minus, bin, old, quant, quant_in, has, size, Decl, Stmt, block, blank, if_only, if_else, loops, gives_back, local, set, step, run, Stmts, done, next}
-use Rattle.java_tree.specs.Phrases.{Phrase, java, one}
-use Rattle.java_tree.specs.Expressions.{expression}
+use Rattle.java_tree.specs.Phrases.{java, one}
 use Rattle.java_tree.specs.Statements.{type_of, is_target, is_place, is_run, takes_else, stepped, value_of, declaration, more_declarations, declarations, condition, returned, statement, statements, is_local_modifier}
 use Rattle.java_tree.specs.Reading.{within}
-use Rattle.java_tree.specs.Print.{Word, symbol, word, type_text, value_written, decl_written, decls_written, condition_written, returned_written, stepped_text, stmt_written, stmts_written}
-use Rattle.round_trip.specs.Bare.{bare, bare_type, bare_modifier, bare_declaration, bare_statement, bare_statements}
+use Rattle.java_tree.specs.Print.{symbol, word, type_text, value_written, decl_written, decls_written, condition_written, returned_written, stepped_text, stmt_written, stmts_written}
+use Rattle.round_trip.specs.Bare.{bare, bare_type, bare_declaration, bare_statement, bare_statements}
 use Rattle.round_trip.proofs.Redo.{Again, thens, closes, recast, given, nothing_again, opens_again, fixed, placed, name_again, two, three}
-use Rattle.round_trip.proofs.Fixed.{open_paren, close_paren, semicolon, comma, assign, increment, decrement, open_brace, close_brace, if_word, else_word, while_word, return_word, int_word, boolean_word}
+use Rattle.round_trip.proofs.Fixed.{semicolon, comma, assign, increment, decrement, open_brace, close_brace, if_word, else_word, while_word, return_word, int_word, boolean_word}
 use Rattle.round_trip.proofs.Expressions.{Same, code_again, brackets_again}
 use Rattle.round_trip.proofs.Modifiers.{modifiers_again}
 

@@ -1,5 +1,5 @@
 -- Trees but for their places.
-use Rattle.std.specs.Prelude.{List, [], ◌∷◌, Option, map, option_map}
+use Rattle.std.specs.Prelude.{map, option_map}
 use Rattle.java_tree.specs.declared.names.Ident.{Ident}
 use Rattle.java_tree.specs.declared.names.Modifier.{Modifier}
 use Rattle.java_tree.specs.declared.names.TypeTree.{TypeTree}
