@@ -19,7 +19,8 @@ use Rattle.java_lex.specs.Bytes.{is_white, is_line_end, is_in_line, is_at, begin
 use Rattle.java_lex.specs.Literals.{number_from, number_of, first_close, quoted_len}
 use Rattle.java_lex.specs.Spellings.{symbol_len}
 use Rattle.java_lex.specs.Fronts.{token_front, number_front, token_of_len, gap_len, front_in, front_out, comment_front, line_front, block_front}
-use Rattle.java_lex.specs.Cut.{Rule, IsPlain, IsInside, IsOutside, IsPiece, Chain, IsNote, Cut, signs, token_of, kind_of}
+use Rattle.java_lex.proofs.Pieces.{Each, chain_each, note_each}
+use Rattle.java_lex.specs.Cut.{IsPlain, IsInside, IsOutside, IsPiece, Cut, token_of, kind_of}
 
 pub pick : {A : Type 0} (c : Bool) (x y : A) → c ≡ false → cond c x y ≡ y
 pick true x y is = absurd (cc)
@@ -352,32 +353,18 @@ outside_kind text = by (nat_lt 0 (prefix_len is_white text)) (starts_with nat_eq
 
 -- each token is so
 abbrev pub AllWritten : List Token → Type 0
-AllWritten [] = Unit {0}
-AllWritten (t ∷ ts) = IsWritten t.kind × AllWritten ts
-
-written_append : (f g : List Token) → AllWritten f → AllWritten g → AllWritten (f ++ g)
-written_append [] g p q = q
-written_append (t ∷ f) g p q = (p.0, written_append f g p.1 q)
+AllWritten ts = Each (λ t. IsWritten t.kind) ts
 
 plain_written : (jml : Bool) (front : Front) (at : ℕ) (text : List ℕ) (n : ℕ) (tokens : List Token) → ((s : Shape) (m : ℕ) → front ≡ token s m → IsKind text s m) → IsPlain jml front at text n tokens → AllWritten tokens
 plain_written jml (Gap m) at text n tokens kinds h = subst AllWritten (sym h.1) tt
 plain_written jml (token s m) at text n tokens kinds h = subst AllWritten (sym h.1) (kinds s m refl, tt)
 plain_written jml Bad at text n tokens kinds h = absurd h
 
-chain_written : (Piece : Rule) → ((at : ℕ) (text : List ℕ) (n : ℕ) (tokens : List Token) → Piece at text n tokens → AllWritten tokens) → (ns : List ℕ) (at : ℕ) (text : List ℕ) (tokens : List Token) (end : ℕ) (rest : List ℕ)
-    → Chain Piece ns at text tokens end rest → AllWritten tokens
-chain_written Piece piece [] at text tokens end rest h = subst AllWritten (sym h.0) tt
-chain_written Piece piece (n ∷ ns) at text tokens end rest h =
-    subst AllWritten (sym h.2) (written_append h.0 h.1 (piece at text n h.0 h.5) (chain_written Piece piece ns (at + n) (drop n text) h.1 end rest h.6))
-
-note_written : (closed : Bool) (at : ℕ) (content : List ℕ) (tokens : List Token) → IsNote closed at content tokens → AllWritten tokens
-note_written closed at content tokens h =
-    chain_written (IsInside closed) (λ at text n tokens. plain_written true (front_in closed text) at text n tokens (λ s m. inside_kind closed text s m)) h.lengths (at + signs content) (drop (signs content) content) tokens (at + length content) [] h.chain
-
 outside_written : (o : Outside) (at : ℕ) (text : List ℕ) (n : ℕ) (tokens : List Token) → IsPlainKind text o → IsOutside o at text n tokens → AllWritten tokens
 outside_written (Plain front) at text n tokens is h = plain_written false front at text n tokens (λ s m same. subst (λ (f : Front). IsPlainKind text (Plain f)) same is) h
-outside_written (Note content whole closed) at text n tokens is h = note_written closed (at + 2) (take content (drop 2 text)) tokens h.1
+outside_written (Note content whole closed) at text n tokens is h =
+    note_each (λ t. IsWritten t.kind) closed (λ at text n tokens. plain_written true (front_in closed text) at text n tokens (λ s m. inside_kind closed text s m)) (at + 2) (take content (drop 2 text)) tokens h.1
 
 -- each word and each number of a text can be written again
 pub cut_written : (text : List ℕ) (ts : List Token) (cut : Cut text ts) → AllWritten cut.before
-cut_written text ts cut = chain_written IsPiece (λ at text n tokens. outside_written (front_out text) at text n tokens (outside_kind text)) cut.leads.lengths 0 text cut.before (length text) [] cut.leads.chain
+cut_written text ts cut = chain_each (λ t. IsWritten t.kind) IsPiece (λ at text n tokens. outside_written (front_out text) at text n tokens (outside_kind text)) cut.leads.lengths 0 text cut.before (length text) [] cut.leads.chain
