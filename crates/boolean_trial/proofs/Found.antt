@@ -1,5 +1,5 @@
 -- What the trial of all lists says of the method.
-use Rattle.std.proofs.Common.{◌≡◌, ℕ, Bool, true, false, List, [], length, Option, Some, None, sym, ap, ◌∙◌, subst}
+use Rattle.std.proofs.Common.{◌≡◌, ℕ, Bool, true, false, List, [], ◌∷◌, length, Option, Some, None, sym, ap, ◌∙◌, subst}
 use Rattle.std.specs.Prelude.{slice_get, MatchOption, IfOk, Result, Ok, Err, if◌then◌else◌}
 use Rattle.std.specs.List.{list_all}
 use Rattle.taco_unit.specs.declared.expr.Expr.{Expr}
@@ -52,7 +52,7 @@ by_found p m plain there (Some b) failing_ =
 
 -- what the trial of the method finds is so of the problem
 pub found_is : (p : Posed) (m : MethodDef) (value : Expr) → IsPlain p.unit p.method → slice_get p.unit.methods p.method ≡ Some m
-    → ((v : Expr) → m.body ≡ s.Return (Some v) → Some value ≡ Some v) → (found : Option Breach) → Finds m value found
+    → ((v : Expr) → m.body ≡ s.Block (s.Return (Some v) ∷ []) → Some value ≡ Some v) → (found : Option Breach) → Finds m value found
     → MatchOption found (Violable p → ⊥) (λ b. Violates p b.start b.part)
 found_is p m value plain there body found finds =
     let def_is : plain.def ≡ m = let both : Some plain.def ≡ Some m = sym plain.there ∙ there in cc in

@@ -5,6 +5,7 @@ use Rattle.std.specs.List.{list_any, list_all, enumerate_from}
 use Rattle.std.specs.Option.{option_map_or}
 use Rattle.taco_unit.specs.declared.kind.Kind.{Kind}
 use Rattle.taco_unit.specs.declared.kind.Kind.TheVariants as kind
+use Rattle.taco_unit.specs.declared.stmt.Stmt.TheVariants as s
 use Rattle.taco_unit.specs.declared.unit.Clause.{Clause}
 use Rattle.taco_unit.specs.declared.unit.MethodDef.{MethodDef}
 use Rattle.taco_unit.specs.declared.unit.ParamDef.{ParamDef}
@@ -21,7 +22,7 @@ use Rattle.heap_core.specs.Outcomes.{flag, is_out, is_true, is_null, zero_of}
 use Rattle.heap_core.specs.Eval.{Env}
 use Rattle.heap_core.specs.Exec.{Frame, Memory, Gives, calls}
 use Rattle.heap_core.specs.Judge.{values_of, entry_env, exit_env, must_be_there, not_true, first_broken, run_of, judged}
-use Rattle.heap_core.proofs.ExecForms.{exec_return}
+use Rattle.heap_core.proofs.ExecForms.{exec_block, exec_return}
 use Rattle.boolean_trial.specs.Plain.{is_plain, are_plain, IsPlainMethod}
 use Rattle.boolean_trial.specs.Truth.{truth_of}
 use Rattle.boolean_trial.specs.Trial.{start_of, first_untrue}
@@ -102,7 +103,7 @@ plain_run p m plain args same there =
     let frame : Frame = record { this = Null; locals = map Flag args } in
     let no_more : map Flag args ++ map zero_of m.locals ≡ map Flag args = ap (λ l. map Flag args ++ map zero_of l) plain.no_locals ∙ append-nil (map Flag args) in
     let is_plain_too : is_plain plain.value (length args) Code ≡ true = rw same plain.plain_value in
-    rw (there, no_more, plain.body, exec_return p run (Some plain.value) frame memory, (says plain.value).code_too args false is_plain_too p run frame memory refl) refl
+    rw (there, no_more, plain.body, exec_block p run (s.Return (Some plain.value) ∷ []) frame memory, exec_return p run (Some plain.value) frame memory, (says plain.value).code_too args false is_plain_too p run frame memory refl) refl
 
 -- once the precondition is known
 by_needs : (args : List Bool) (t asked lacks : Bool) (gives : List Clause) (seen : List Seen) → seen ≡ said args t gives → lacks ≡ false

@@ -4,3 +4,4 @@ pub mod Says
 pub mod Judging
 pub mod Starts
 pub mod Trying
+pub mod Plainly

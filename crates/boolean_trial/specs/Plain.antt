@@ -1,5 +1,5 @@
 -- Plain methods: static, over truth values alone, with one `return` as the body.
-use Rattle.std.specs.Prelude.{◌≡◌, ℕ, nat_lt, ◌&&◌, Bool, true, false, List, [], length, map, slice_get, Some, option_map}
+use Rattle.std.specs.Prelude.{◌≡◌, ℕ, nat_lt, ◌&&◌, Bool, true, false, List, [], ◌∷◌, length, map, slice_get, Some, option_map}
 use Rattle.std.specs.List.{list_all}
 use Rattle.taco_unit.specs.declared.kind.Kind.TheVariants as kind
 use Rattle.taco_unit.specs.declared.expr.Op.{Op}
@@ -57,7 +57,7 @@ pub record IsPlainMethod (m : MethodDef) : Type 0 where
   pub params : list_all (λ p. same_kind p.kind kind.Flag) m.params ≡ true
   pub result : option_map (λ r. r.0) m.result ≡ Some kind.Flag
   pub no_locals : m.locals ≡ []
-  pub body : m.body ≡ s.Return (Some value)
+  pub body : m.body ≡ s.Block (s.Return (Some value) ∷ [])
   pub plain_value : is_plain value (length m.params) Code ≡ true
   pub needs : are_plain (length m.params) Entry m.needs ≡ true
   pub gives : are_plain (length m.params) Exit m.gives ≡ true

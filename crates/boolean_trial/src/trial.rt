@@ -1,4 +1,4 @@
-ghost use Rattle.std.specs.Prelude.{◌≡◌, ℕ, ◌+◌, ◌-◌, ◌<◌, ◌≤◌, ◌++◌, false, length, take, map, slice_get, Option, Some, IfOk, IfSome, MatchOption, option_copied};
+ghost use Rattle.std.specs.Prelude.{◌≡◌, ℕ, ◌+◌, ◌-◌, ◌<◌, ◌≤◌, ◌++◌, ◌∷◌, [], false, length, take, map, slice_get, Option, Some, IfOk, IfSome, MatchOption, option_copied};
 ghost use Rattle.std.specs.List.{list_all};
 ghost use Rattle.taco_unit.specs.declared.expr.Expr.{Expr as Expression};
 ghost use Rattle.taco_unit.specs.declared.stmt.Stmt.TheVariants as s;
@@ -85,11 +85,23 @@ fn first_failing(
 }
 
 /// The value that a body returns. None where it is not one `return` with a value.
-fn returned_value(body: &Stmt) -> Option<&Expr>
-    ensures { (value : Expression) → body.now ≡ s.Return (Some value) → option_copied result ≡ Some value }
+pub(crate) fn returned_value(body: &Stmt) -> Option<&Expr>
+    ensures found { (value : Expression) → body.now ≡ s.Block (s.Return (Some value) ∷ []) → option_copied result ≡ Some value }
+    ensures is { IfSome result (λ value. body.now ≡ s.Block (s.Return (Some value.now) ∷ [])) }
 {
     match body {
-        Stmt::Return(Some(value)) => Some(value),
+        Stmt::Block(parts) => returned_by(parts.as_slice()),
+        _ => None,
+    }
+}
+
+/// The value that these statements return. None where they are not one `return` with a value.
+fn returned_by(parts: &[Stmt]) -> Option<&Expr>
+    ensures found { (value : Expression) → parts.now ≡ s.Return (Some value) ∷ [] → option_copied result ≡ Some value }
+    ensures is { IfSome result (λ value. parts.now ≡ s.Return (Some value.now) ∷ []) }
+{
+    match parts {
+        [Stmt::Return(Some(value))] => Some(value),
         _ => None,
     }
 }
@@ -117,7 +129,7 @@ fn item_at(methods: &[MethodDef], at: usize) -> &MethodDef
 }
 
 /// The method of this number.
-fn method_at(unit: &Unit, method: u8) -> &MethodDef
+pub(crate) fn method_at(unit: &Unit, method: u8) -> &MethodDef
     requires { method < length unit.now.methods }
     ensures there { slice_get unit.now.methods method ≡ Some result.now }
     ensures well { IsWellMethod unit.now result.now }

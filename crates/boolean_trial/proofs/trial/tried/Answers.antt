@@ -15,4 +15,4 @@ returns-in-Some c =
     let at_method : Posed → Type 0 = λ q. slice_get q.unit.methods q.method ≡ Some method in
     let there : slice_get p.unit.methods p.method ≡ Some method = subst at_method c.problem.view_is c.method_at-method.ensures.there in
     let is_found : Option Breach → Type 0 = λ found. MatchOption found (Violable p → ⊥) (λ b. Violates p b.start b.part) in
-    if_ok_more (Finds method value) is_found c.tried_method.result (found_is p method value c.requires there c.in-Some.ensures) c.tried_method.ensures
+    if_ok_more (Finds method value) is_found c.tried_method.result (found_is p method value c.requires there c.in-Some.ensures.found) c.tried_method.ensures
