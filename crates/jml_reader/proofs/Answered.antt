@@ -13,7 +13,7 @@ use Rattle.java_tree.specs.Phrases.{Phrase, Limit, closed}
 use Rattle.java_tree.specs.Expressions.{predicate, phrase}
 use Rattle.java_tree.specs.Reading.{some_predicate, within, FirstWrong, FirstDeep, absent}
 use Rattle.java_tree.proofs.Limits.{predicate_sub}
-use Rattle.reading_core.specs.Read.{Read, Got, Bad, Deep, OnGot, on, at_side, is_name, is_name_terminal, is_open_terminal, is_close_terminal, is_comma_terminal, is_semicolon_terminal}
+use Rattle.reading_core.specs.Read.{Read, Got, Bad, Deep, OnGot, on, at_side, is_name, is_name_terminal, is_open_terminal, is_close_terminal, is_comma_terminal, is_semicolon_terminal, is_open, is_close, is_comma, is_semicolon}
 use Rattle.reading_core.specs.Deeper.{always}
 use Rattle.reading_core.specs.Machine.{Test, Act, Take, Open, Leave, Refuse, Step, On, OnOpen, Stop, Next, Fine, BadAt, DeepAt, act, then_, takes_if, opens_if, step, run}
 use Rattle.reading_core.specs.Follow.{follow, behind}
@@ -74,42 +74,46 @@ question_not : (l : ℕ) (t : Token) → is_name true t ≡ false → NotTaken (
 question_not l t not =
     subst NotTaken (sym (when_false (is_word HAS.now t) _ _ (word_not HAS.now t not) ∙ when_false (is_word INT_SIZE.now t) _ _ (word_not INT_SIZE.now t not))) (tt {0})
 
+takes_not : (b : Bool) (ws : List Want) → b ≡ false → NotTaken (takes_if b ws)
+takes_not true ws not = cc
+takes_not false ws not = tt {0}
+
+opens_not : (b : Bool) (k : ℕ) (ws : List Want) → b ≡ false → NotTaken (opens_if b k ws)
+opens_not true k ws not = cc
+opens_not false k ws not = tt {0}
+
 not_taken : (w : Want) (t : Token) → terminal_of t ≡ terminal.End → NotTaken (react w t)
 not_taken (Operand side n l) t is = at_end (λ x. NotTaken (starts alone side n l x)) (starts_end side n l) (starts_other side n l) side t is
 not_taken (Chain side n l) t is = at_end (λ x. NotTaken (goes_on alone side n l (link_at n (sign_of x)))) (tt {0}) (tt {0}) side t is
 not_taken (Steps side l) t is = at_end (λ x. NotTaken (steps_on alone side l (is_dot_terminal x))) (tt {0}) (tt {0}) side t is
 not_taken (Called l) t is = at_end (λ x. NotTaken (calls alone l x)) (tt {0}) (tt {0}) false t is
-not_taken (StepWant side l) t is = at_end (λ x. NotTaken (takes_if (is_name_terminal x) _)) (tt {0}) (tt {0}) side t is
-not_taken (Args l) t is = at_end (λ x. NotTaken (args_start alone l x)) (then_not (starts alone false 6 l terminal.End) _ (starts_end false 6 l)) (then_not (starts alone false 6 l terminal.Reserved) _ (starts_other false 6 l)) false t is
+not_taken (StepWant side l) t is = takes_not (is_name side t) _ (at_end (λ x. is_name_terminal x ≡ false) refl refl side t is)
+not_taken (Args l) t is = at_end (λ x. NotTaken (args_start alone l x)) (tt {0}) (tt {0}) false t is
 not_taken (MoreArgs l) t is = at_end (λ x. NotTaken (args_go_on alone l x)) (tt {0}) (tt {0}) false t is
-not_taken (New l) t is = at_end (λ x. NotTaken (takes_if (is_name_terminal x) _)) (tt {0}) (tt {0}) false t is
-not_taken (NewOpen l) t is = at_end (λ x. NotTaken (opens_if (is_open_terminal x) (suc l) _)) (tt {0}) (tt {0}) false t is
-not_taken (Bracket l) t is = at_end (λ x. NotTaken (opens_if (is_open_terminal x) (suc l) _)) (tt {0}) (tt {0}) true t is
-not_taken (Empty l) t is = at_end (λ x. NotTaken (opens_if (is_open_terminal x) (suc l) _)) (tt {0}) (tt {0}) true t is
-not_taken (Group l) t is =
-    at_end (λ x. NotTaken (group_on alone l x)) (then_not (starts alone true 8 (suc l) terminal.End) _ (starts_end true 8 (suc l))) (then_not (starts alone true 8 (suc l) terminal.Reserved) _ (starts_other true 8 (suc l))) true t is
+not_taken (New l) t is = takes_not (is_name false t) _ (at_end (λ x. is_name_terminal x ≡ false) refl refl false t is)
+not_taken (NewOpen l) t is = opens_not (is_open false t) (suc l) _ (at_end (λ x. is_open_terminal x ≡ false) refl refl false t is)
+not_taken (Bracket l) t is = opens_not (is_open true t) (suc l) _ (at_end (λ x. is_open_terminal x ≡ false) refl refl true t is)
+not_taken (Empty l) t is = opens_not (is_open true t) (suc l) _ (at_end (λ x. is_open_terminal x ≡ false) refl refl true t is)
+not_taken (Group l) t is = at_end (λ x. NotTaken (group_on alone l x)) (tt {0}) (tt {0}) true t is
 not_taken (Second l) t is = at_end (λ x. NotTaken (second_on alone l x)) (tt {0}) (tt {0}) true t is
-not_taken (Reach l) t is = at_end (λ x. NotTaken (opens_if (is_open_terminal x) (suc l) _)) (tt {0}) (tt {0}) true t is
+not_taken (Reach l) t is = opens_not (is_open true t) (suc l) _ (at_end (λ x. is_open_terminal x ≡ false) refl refl true t is)
 not_taken (Fields l) t is = at_end (λ x. NotTaken (fields_on alone l x)) (tt {0}) (tt {0}) true t is
-not_taken (Dot l) t is = at_end (λ x. NotTaken (takes_if (is_dot_terminal x) _)) (tt {0}) (tt {0}) true t is
+not_taken (Dot l) t is = takes_not (is_dot true t) _ (at_end (λ x. is_dot_terminal x ≡ false) refl refl true t is)
 not_taken (Question l) t is = question_not l t (at_end (λ x. is_name_terminal x ≡ false) refl refl true t is)
-not_taken (Name side) t is = at_end (λ x. NotTaken (takes_if (is_name_terminal x) _)) (tt {0}) (tt {0}) side t is
-not_taken (Close side) t is = at_end (λ x. NotTaken (takes_if (is_close_terminal x) _)) (tt {0}) (tt {0}) side t is
-not_taken Comma t is = at_end (λ x. NotTaken (takes_if (is_comma_terminal x) _)) (tt {0}) (tt {0}) true t is
-not_taken Semicolon t is = at_end (λ x. NotTaken (takes_if (is_semicolon_terminal x) _)) (tt {0}) (tt {0}) true t is
+not_taken (Name side) t is = takes_not (is_name side t) _ (at_end (λ x. is_name_terminal x ≡ false) refl refl side t is)
+not_taken (Close side) t is = takes_not (is_close side t) _ (at_end (λ x. is_close_terminal x ≡ false) refl refl side t is)
+not_taken Comma t is = takes_not (is_comma true t) _ (at_end (λ x. is_comma_terminal x ≡ false) refl refl true t is)
+not_taken Semicolon t is = takes_not (is_semicolon true t) _ (at_end (λ x. is_semicolon_terminal x ≡ false) refl refl true t is)
+
+stops_act : (a : Act Want) (ws : List Want) (below_ : Step Want) → NotTaken a → below_ ≡ Stop → act a ws below_ ≡ Stop
+stops_act (Take more) ws below_ not is = absurd not
+stops_act (Open k more) ws below_ not is = absurd not
+stops_act Leave ws below_ not is = is
+stops_act Refuse ws below_ not is = refl
 
 end_stops : (t : Token) (ws : List Want) → terminal_of t ≡ terminal.End → step react is_ready t ws ≡ Stop
 end_stops t [] is = refl
-end_stops t (w ∷ ws) is = by (react w t) (not_taken w t is)
-  where
-    ih : step react is_ready t ws ≡ Stop
-    ih = end_stops t ws is
-
-    by : (a : Act Want) → NotTaken a → act a ws (step react is_ready t ws) ≡ Stop
-    by (Take more) not = absurd not
-    by (Open k more) not = absurd not
-    by Leave not = ih
-    by Refuse not = refl
+end_stops t (w ∷ ws) is = stops_act (react w t) ws (step react is_ready t ws) (not_taken w t is) (end_stops t ws is)
 
 -- tokens with the end behind them are no front of an expression
 ended_by : (t u : Token) (ts : List Token) (b : Bool) → ((ws : List Want) → run react is_ready up_to_64 (u ∷ ts) ws ≡ Fine b → ⊥) → (s : Step Want) → behind react is_ready up_to_64 t (u ∷ ts) s ≡ Fine b → ⊥
