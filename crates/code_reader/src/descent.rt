@@ -4,7 +4,7 @@ ghost use Rattle.reading_core.specs.Deeper.{bracket};
 ghost use Rattle.reading_core.specs.Gives.{Gives};
 ghost use Rattle.expression_reading.specs.Levels.{readers_of, within_left};
 ghost use Rattle.expression_reading.specs.Parts.{grouped_in, negated_in, subtracted_in};
-ghost use Rattle.expression_reading.specs.Reading.{arguments_in, chain_in, first_is, operand_in, paren_in, steps_in, unary_in};
+ghost use Rattle.expression_reading.specs.Reading.{argument_in, arguments_in, chain_in, first_is, operand_in, steps_in, unary_in};
 ghost use Rattle.reading_core.specs.Read.{is_close, is_comma};
 ghost use Rattle.code_reader.specs.Descent.{given_in, made_in, named_in, step_of};
 
@@ -156,9 +156,9 @@ fn steps<'a>(alloc: Global, tokens: &'a [Token], left: u8, start: JavaTree) -> R
     let mut rest = tokens;
     let mut levels = left;
     while let Some((token, behind)) = first(rest) {
-        if !matches!(terminal_at(token, false), Terminal::Dot) {
+        let Terminal::Dot = terminal_at(token, false) else {
             return Ok((tree, rest));
-        }
+        };
         let Some(less) = deeper(levels) else {
             return Err(Stop::Deep(rest));
         };
@@ -223,12 +223,20 @@ fn inside<'a>(alloc: Global, tokens: &'a [Token], less: u8) -> Result<(Vec<JavaT
     let (tree, mut rest) = operand(alloc, tokens, less, TOP)?;
     arguments.push(tree)?;
     'arguments: while goes_on_by_comma(rest) {
-        let (_comma, behind) = comma(rest, false)?;
-        let (tree, after) = operand(alloc, behind, less, TOP)?;
+        let (tree, after) = argument(alloc, rest, less)?;
         arguments.push(tree)?;
         rest = after;
     }
     Ok((arguments, rest))
+}
+
+/// One more argument, behind its comma.
+#[cycle(descent)]
+fn argument<'a>(alloc: Global, tokens: &'a [Token], less: u8) -> Result<(JavaTree, &'a [Token]), Stop<'a>>
+    ensures { Gives java_tree result (argument_in (readers_of false less) tokens.now) }
+{
+    let (_comma, rest) = comma(tokens, false)?;
+    operand(alloc, rest, less, TOP)
 }
 
 /// Whether a `)` comes first.
