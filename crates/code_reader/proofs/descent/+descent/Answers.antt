@@ -73,7 +73,7 @@ steps-loop-token-preserved t c =
     let fewer : c.loop-token.levels ≡ suc c.in-Some-deeper.less = c.in-Some-deeper.ensures.less in
     let low : c.loop-token.levels ≤ c.args.left = c.loop-token.invariant.1 in (
       c.loop-token.invariant.0 ∙ dot_is c.loop-token.levels c.in-Some-deeper.less (java_tree c.loop-token.tree) c.in-Some.token.now c.loop-token.rest.now c.in-Some.behind.now c.in-Some.ensures c.in-Dot.ensures c.in-Some-deeper.ensures.code
-      ∙ ap (λ (r : Read Expr). r ⟫ (λ e rest. steps_in false (within_left false c.in-Some-deeper.less) e rest)) c.in_ok-longer.ensures,
+          ∙ ap (λ (r : Read Expr). r ⟫ (λ e rest. steps_in false (within_left false c.in-Some-deeper.less) e rest)) c.in_ok-longer.ensures,
       omega arith,
     )
 
