@@ -55,8 +55,8 @@ pub record Done (k : Around) (st : State) (xs : List UnitStmt) : Type 0 where
 
 skip_fits : {A : Type 0} (P : State → A → Type 0) (all : List Sort) (b : Bool) (st : State) (was : Seen A) (ran : Ended A) → Before (skipped b st was ran).state.sorts all → OnStands was (P st)
     → (b ≡ false → Before ran.state.sorts all → OnStands ran.is (P ran.state)) → OnStands (skipped b st was ran).is (P (skipped b st was ran).state)
-skip_fits P all true st was ran before h step = h
-skip_fits P all false st was ran before h step = step refl before
+skip_fits P all true st was ran before h go = h
+skip_fits P all false st was ran before h go = go refl before
 
 -- TYPES
 
@@ -141,13 +141,13 @@ first_suits k (Object c) fixed = ap (takes (Of (kind_of (Object c)))) (sort_null
 
 first_fits : (w : World) (h : Here) (all : List Sort) (k : Around) (sort : Sort) (a : Option Tree) (n : ℕ) (st : State) → Surrounds w h form.Code all k → LocalAt k n sort → Holds k st
     → OnStands (first_set w h sort a n st.held) (λ x. is_fitting x k ≡ true)
-first_fits w h all k sort None n st around local holds =
-    fitting_set (byte n) (first_value sort) k ∙ ap (λ o. takes (sort_of_kind o) (sort_of (first_value sort) k)) local.at ∙ first_suits k sort local.fixed
-first_fits w h all k sort (Some a) n st around local holds =
+first_fits w h all k sort None n st around at holds =
+    fitting_set (byte n) (first_value sort) k ∙ ap (λ o. takes (sort_of_kind o) (sort_of (first_value sort) k)) at.at ∙ first_suits k sort at.fixed
+first_fits w h all k sort (Some a) n st around at holds =
     on_over (HasSort k) (λ x. is_fitting x k ≡ true) (seen a (in_body w h st.held)) (initial n sort) (sorts a (in_body w h st.held) k (agrees_in w h form.Code all k st around holds))
     (λ x of_x.
     on_unless (λ y. is_fitting y k ≡ true) (wants sort x) (s.Set (byte n) x.expr)
-    (λ quiet. fitting_set (byte n) x.expr k ∙ ap (λ o. takes (sort_of_kind o) (sort_of x.expr k)) local.at ∙ value_suits k sort x local.fixed of_x quiet))
+    (λ quiet. fitting_set (byte n) x.expr k ∙ ap (λ o. takes (sort_of_kind o) (sort_of x.expr k)) at.at ∙ value_suits k sort x at.fixed of_x quiet))
 
 decl_fits : (w : World) (h : Here) (all : List Sort) (k : Around) (sort : Sort) (d : Decl) (st : State) → Surrounds w h form.Code all k → InUnit k.unit sort → length st.sorts ≤ 32 → Before (with_local h sort d.name st).sorts all → Holds k st
     → OnStands (seen_decl w h sort d st).is (λ x. Done k (with_local h sort d.name st) (x ∷ []))
@@ -224,9 +224,10 @@ branch_fits w h all k c st under around holds h_under =
     (λ x p test part. record { test = test; under = as_stmt_fits k p part.fit; holds = closed_holds k st under.state part.holds })
 
 mutual
+  unfolding seen_stmt seen_stmts
+
   pub stmt_fits : (w : World) (h : Here) (all : List Sort) (k : Around) (n : ℕ) (a : Stmt) (st : State) → Surrounds w h form.Code all k → Before (seen_stmt w h n a st).state.sorts all → Holds k st
       → OnStands (seen_stmt w h n a st).is (λ p. Done k (seen_stmt w h n a st).state (as_list p))
-  unfolding seen_stmt seen_stmts
   stmt_fits w h all k n (block ss) st around before holds =
       let inner : Ended (List UnitStmt) = seen_stmts w h n ss st (Stands []) in
       skip_fits (λ st' p. Done k st' (as_list p)) all (is_full st) st (Stands nothing) (block_of st inner) before (nothing_done k st holds)
@@ -303,7 +304,6 @@ mutual
 
   pub stmts_fit : (w : World) (h : Here) (all : List Sort) (k : Around) (n : ℕ) (ss : Stmts) (st : State) (s : Seen (List UnitStmt)) → Surrounds w h form.Code all k → Before (seen_stmts w h n ss st s).state.sorts all
       → OnStands s (Done k st) → OnStands (seen_stmts w h n ss st s).is (Done k (seen_stmts w h n ss st s).state)
-  unfolding seen_stmt seen_stmts
   stmts_fit w h all k n done st s around before h_s = h_s
   stmts_fit w h all k n (next a more) st s around before h_s =
       let one : Ended Piece = seen_stmt w h n a st in

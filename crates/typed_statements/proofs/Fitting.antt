@@ -83,8 +83,9 @@ decls_grow w h sort (d ∷ ds) st s =
     (decls_grow w h sort ds (with_local h sort d.name st) (over_two s (seen_decl w h sort d st).is (λ xs x. Stands (xs ++ x ∷ [])))))
 
 mutual
-  pub stmt_grows : (w : World) (h : Here) (n : ℕ) (a : Stmt) (st : State) → Before st.sorts (seen_stmt w h n a st).state.sorts
   unfolding seen_stmt seen_stmts
+
+  pub stmt_grows : (w : World) (h : Here) (n : ℕ) (a : Stmt) (st : State) → Before st.sorts (seen_stmt w h n a st).state.sorts
   stmt_grows w h n (block ss) st = skipped_grows (is_full st) st _ _ (stmts_grow w h n ss st (Stands []))
   stmt_grows w h n blank st = before_refl st.sorts
   stmt_grows w h n (if_only c a) st = skipped_grows (is_full st) st _ _ (stmt_grows w h n a st)
@@ -99,7 +100,6 @@ mutual
   stmt_grows w h n (run a) st = skipped_grows (is_full st) st _ _ (before_refl st.sorts)
 
   pub stmts_grow : (w : World) (h : Here) (n : ℕ) (ss : Stmts) (st : State) (s : Seen (List UnitStmt)) → Before st.sorts (seen_stmts w h n ss st s).state.sorts
-  unfolding seen_stmt seen_stmts
   stmts_grow w h n done st s = before_refl st.sorts
   stmts_grow w h n (next a more) st s =
       before_trans st.sorts (seen_stmt w h n a st).state.sorts _ (stmt_grows w h n a st)
@@ -175,17 +175,17 @@ tested w h all k st c around holds =
 abbrev pub AllFit : Around → List UnitStmt → Type 0
 AllFit k xs = list_all (λ x. is_fitting x k) xs ≡ true
 
-one_fits : (k : Around) (x : UnitStmt) → is_fitting x k ≡ true → AllFit k (x ∷ [])
+pub one_fits : (k : Around) (x : UnitStmt) → is_fitting x k ≡ true → AllFit k (x ∷ [])
 one_fits k x h = both_of (is_fitting x k) true h refl
 
-block_fits : (k : Around) (xs : List UnitStmt) → AllFit k xs → is_fitting (s.Block xs) k ≡ true
+pub block_fits : (k : Around) (xs : List UnitStmt) → AllFit k xs → is_fitting (s.Block xs) k ≡ true
 block_fits k xs h = fitting_block xs k ∙ list_all-map (λ f. f k) is_fitting xs ∙ h
 
-as_stmt_fits : (k : Around) (p : Piece) → AllFit k (as_list p) → is_fitting (as_stmt p) k ≡ true
+pub as_stmt_fits : (k : Around) (p : Piece) → AllFit k (as_list p) → is_fitting (as_stmt p) k ≡ true
 as_stmt_fits k (One x) h = left_of (is_fitting x k) true h
 as_stmt_fits k (Many xs) h = block_fits k xs h
 
-value_suits : (k : Around) (sort : Sort) (x : Typed) → is_kind sort ≡ true → HasSort k x → wants sort x ≡ [] → takes (Of (kind_of sort)) (sort_of x.expr k) ≡ true
+pub value_suits : (k : Around) (sort : Sort) (x : Typed) → is_kind sort ≡ true → HasSort k x → wants sort x ≡ [] → takes (Of (kind_of sort)) (sort_of x.expr k) ≡ true
 value_suits k sort x fixed of_x quiet = wanted_suits sort x k fixed of_x quiet
 
 assigned_fits : (k : Around) (p : Spot) (sort : Sort) (x : Typed) → sort_of (value_at p) k ≡ Of (kind_of sort) → is_kind sort ≡ true → HasSort k x → wants sort x ≡ [] → is_fitting (assigned p x.expr) k ≡ true
@@ -194,7 +194,7 @@ assigned_fits k (spot.Local n) sort x of_p fixed of_x quiet =
 assigned_fits k (spot.Field o f) sort x of_p fixed of_x quiet =
     fitting_write o f x.expr k ∙ ap (λ r. takes r (sort_of x.expr k)) (sym (sort_read o f k) ∙ of_p) ∙ value_suits k sort x fixed of_x quiet
 
-set_fits : (k : Around) (p : Place) (x : Typed) → HasPlace k p → HasSort k x → OnStands (set_of p x) (λ q. AllFit k (as_list q))
+pub set_fits : (k : Around) (p : Place) (x : Typed) → HasPlace k p → HasSort k x → OnStands (set_of p x) (λ q. AllFit k (as_list q))
 set_fits k p x of_p of_x =
     on_unless (λ q. AllFit k (as_list q)) (wants p.sort x) (One (assigned p.spot x.expr))
     (λ quiet. one_fits k (assigned p.spot x.expr) (assigned_fits k p.spot p.sort x of_p.sort of_p.fixed of_x quiet))
@@ -211,7 +211,7 @@ counted_fits : (k : Around) (p : Spot) (up : Bool) → sort_of (value_at p) k �
 counted_fits k (spot.Local n) up of_p = fitting_step_local n up k ∙ ap (λ r. takes r (Of (kind_of Int))) (sym (sort_local n k) ∙ of_p)
 counted_fits k (spot.Field o f) up of_p = fitting_step_field o f up k ∙ ap (λ r. takes r (Of (kind_of Int))) (sym (sort_read o f k) ∙ of_p)
 
-step_fits : (k : Around) (p : Place) (up : Bool) → HasPlace k p → OnStands (step_of up p) (λ q. AllFit k (as_list q))
+pub step_fits : (k : Around) (p : Place) (up : Bool) → HasPlace k p → OnStands (step_of up p) (λ q. AllFit k (as_list q))
 step_fits k p up of_p =
     on_unless (λ q. AllFit k (as_list q)) (wanted Int p.at p.sort) (One (counted p.spot up))
     (λ quiet. one_fits k (counted p.spot up) (counted_fits k p.spot up (of_p.sort ∙ wanted_int p.sort p.at of_p.fixed quiet)))
@@ -220,11 +220,11 @@ run_by : (k : Around) (c : Called) (r : Option Sort) → HasCall k c → c.resul
 run_by k c None of_c is = ap is_call (of_c.gives_none is)
 run_by k c (Some s) of_c is = ap is_call (of_c.gives s is).0
 
-run_fits : (k : Around) (c : Called) → k.form ≡ Code → HasCall k c → OnStands (run_of c) (λ q. AllFit k (as_list q))
+pub run_fits : (k : Around) (c : Called) → k.form ≡ Code → HasCall k c → OnStands (run_of c) (λ q. AllFit k (as_list q))
 run_fits k c code of_c =
     one_fits k (s.Run c.call) (fitting_run c.call k ∙ ap is_call (sort_call c.call k ∙ ap (λ f. in_code f (sort_of_call c.call k)) code) ∙ run_by k c c.result of_c refl)
 
-target_placed : (a : Tree) (sc : Scope) (k : Around) → Agrees sc k → OnStands (seen_target a sc) (HasPlace k)
+pub target_placed : (a : Tree) (sc : Scope) (k : Around) → Agrees sc k → OnStands (seen_target a sc) (HasPlace k)
 target_placed (named at i) sc k agrees = named_placed sc k at i agrees
 target_placed (read at a i) sc k agrees = on_over (HasSort k) (HasPlace k) (seen a sc) (read_place sc.world at i) (sorts a sc k agrees) (λ x of_x. read_placed sc.world k at i x agrees.knows of_x)
 target_placed (num at n) sc k agrees = tt
@@ -245,7 +245,7 @@ target_placed (quant_in at all kind i r b) sc k agrees = tt
 target_placed (has at a kind fields b) sc k agrees = tt
 target_placed (size at a kind fields) sc k agrees = tt
 
-call_gives : (a : Tree) (sc : Scope) (k : Around) → Agrees sc k → OnStands (seen_call a sc) (HasCall k)
+pub call_gives : (a : Tree) (sc : Scope) (k : Around) → Agrees sc k → OnStands (seen_call a sc) (HasCall k)
 call_gives (call at i args) sc k agrees =
     on_over (HaveSorts k) (HasCall k) (seen_from (Stands no_arguments) args sc) (λ ts. own_call sc.here at i ts (method_of sc.world sc.here.class i))
     (sorts_from args (Stands no_arguments) sc k agrees (record { sorts = refl; known = refl })) (λ ts of_ts. own_call_sort sc k at i ts agrees of_ts)
@@ -283,7 +283,7 @@ none_by w h all k None at around is =
     on_unless (λ q. AllFit k (as_list q)) [] (One (s.Return None)) (λ quiet. one_fits k (s.Return None) (fitting_return None k ∙ ap is_none (around.no_result is)))
 none_by w h all k (Some sort) at around is = on_unless (λ q. AllFit k (as_list q)) (fault at Kinds ∷ []) (One (s.Return None)) (λ quiet. absurd (cc))
 
-return_fits : (w : World) (h : Here) (all : List Sort) (k : Around) (st : State) (at : ℕ) (a : Option Tree) → Surrounds w h form.Code all k → Holds k st → OnStands (returned w h st at a) (λ q. AllFit k (as_list q))
+pub return_fits : (w : World) (h : Here) (all : List Sort) (k : Around) (st : State) (at : ℕ) (a : Option Tree) → Surrounds w h form.Code all k → Holds k st → OnStands (returned w h st at a) (λ q. AllFit k (as_list q))
 return_fits w h all k st at None around holds = none_by w h all k h.result at around refl
 return_fits w h all k st at (Some a) around holds =
     on_over (HasSort k) (λ q. AllFit k (as_list q)) (seen a (in_body w h st.held)) (return_of h.result) (sorts a (in_body w h st.held) k (agrees_in w h form.Code all k st around holds))
