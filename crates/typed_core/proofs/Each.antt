@@ -2,8 +2,10 @@
 use Rattle.std.proofs.Common.{◌≡◌, ◌≢◌, ◌≤◌, ◌<◌, ◌+◌, ℕ, zero, suc, Bool, true, false, List, [], ◌∷◌, ◌++◌, Option, None, Some, length, cond, refl, ap, sym, ◌∙◌, subst, arith, inl, inr, get_or, lt-ltb, eq-eqb}
 use Rattle.std.specs.Prelude.{slice_get, position, AllPairs, map, option_map, bytes_eq, ◌==◌, ◌&&◌, nat_lt, not, is_some, ◌⊎◌, count_by}
 use Rattle.std.specs.List.{position_or_len}
-use Rattle.std.proofs.lemmas.Option.{slice_get_within, slice_get-get_or, slice_get-map}
-use Rattle.std.proofs.lemmas.Bool.{eqb-true}
+use Rattle.std.proofs.lemmas.Option.{slice_get_within, slice_get-get_or, get_or_from_slice_get}
+use Rattle.std.proofs.lemmas.Bool.{eqb-true, ltb-false}
+use Rattle.std.proofs.lemmas.Bool.Decides.{Decides-ltb}
+use Rattle.std.proofs.lemmas.List.Sums.{fails_before_first}
 use Rattle.std.proofs.lemmas.Slice.Eq.{bytes_eq-Decides}
 use Rattle.std.proofs.lemmas.List.{length-append}
 use Rattle.std.proofs.lemmas.List.Quantifiers.{position-Some}
@@ -47,24 +49,24 @@ each_push R xs ys x y h new =
       at = λ i z is. each_at R xs ys x y h new i z (grown_at xs x i z is);
     }
 
+past_end : {A : Type 0} (zs : List A) (j : ℕ) → slice_get zs j ≡ None → j < length zs → ⊥
+past_end [] j none within = omega arith
+past_end (z ∷ zs) zero none within = absurd (cc)
+past_end (z ∷ zs) (suc j) none within = past_end zs j none (omega arith)
+
+back_by : {A B : Type 0} (R : ℕ → A → B → Type 0) (xs : List A) (ys : List B) → Each R xs ys → (i : ℕ) (y : B) → slice_get ys i ≡ Some y → (o : Option A) → slice_get xs i ≡ o → i < length xs → (x : A) × (slice_get xs i ≡ Some x) × R i x y
+back_by {A} {B} R xs ys h i y is (Some x) found within =
+    let other = h.at i x found in
+    let same : other.0 ≡ y = cc in
+    let P : B → Type 0 = λ v. R i x v in
+    (x, found, subst P same other.2)
+back_by R xs ys h i y is None found within = absurd (past_end xs i found within)
+
 -- the one of the first list that goes with one of the second
 pub each_back : {A B : Type 0} (R : ℕ → A → B → Type 0) (xs : List A) (ys : List B) → Each R xs ys → (i : ℕ) (y : B) → slice_get ys i ≡ Some y → (x : A) × (slice_get xs i ≡ Some x) × R i x y
-each_back {A} {B} R xs ys h i y is =
+each_back R xs ys h i y is =
     let within : i < length xs = let P : ℕ → Type 0 = λ n. i < n in subst P (sym h.same) (slice_get_within ys i y is) in
-    there (slice_get xs i) refl within
-  where
-    there : (o : Option A) → slice_get xs i ≡ o → i < length xs → (x : A) × (slice_get xs i ≡ Some x) × R i x y
-    there (Some x) found within =
-        let other = h.at i x found in
-        let same : other.0 ≡ y = cc in
-        let P : B → Type 0 = λ v. R i x v in
-        (x, found, subst P same other.2)
-    there None found within = absurd (past xs i found within)
-
-    past : (zs : List A) (j : ℕ) → slice_get zs j ≡ None → j < length zs → ⊥
-    past [] j none in_ = omega arith
-    past (z ∷ zs) zero none in_ = absurd (cc)
-    past (z ∷ zs) (suc j) none in_ = past zs j none (omega arith)
+    back_by R xs ys h i y is (slice_get xs i) refl within
 
 -- each place against each later one
 pub apart_from : {A : Type 0} (R : A → A → Type 0) (xs : List A) → ((i j : ℕ) (x y : A) → i < j → slice_get xs i ≡ Some x → slice_get xs j ≡ Some y → R x y) → AllPairs R xs
@@ -75,20 +77,14 @@ apart_from R xs h i j d before within =
 -- FIRST PLACES
 
 found_by : {A : Type 0} (p : A → Bool) (xs : List A) (i : ℕ) (x : A) → slice_get xs i ≡ Some x → p x ≡ true → position_or_len p xs ≤ i
-found_by p [] i x is passes = absurd (cc)
-found_by p (y ∷ ys) zero x is passes =
-    let same : y ≡ x = cc in
-    let here : p y ≡ true = ap p same ∙ passes in
-    at_front (p y) (position_or_len p ys) here
+found_by p xs i x is passes = by_order (nat_lt i (position_or_len p xs)) refl
   where
-    at_front : (b : Bool) (n : ℕ) → b ≡ true → cond b 0 (1 + n) ≤ 0
-    at_front true n is_ = omega arith
-    at_front false n is_ = absurd (cc)
-found_by p (y ∷ ys) (suc i) x is passes = behind_it (p y) (position_or_len p ys) (found_by p ys i x is passes)
-  where
-    behind_it : (b : Bool) (n : ℕ) → n ≤ i → cond b 0 (1 + n) ≤ suc i
-    behind_it true n few = omega arith
-    behind_it false n few = omega arith
+    by_order : (b : Bool) → nat_lt i (position_or_len p xs) ≡ b → position_or_len p xs ≤ i
+    by_order false other = ltb-false i (position_or_len p xs) other
+    by_order true less =
+        let fails : p (get_or xs i x) ≡ false = fails_before_first p xs i x ((Decides-ltb i (position_or_len p xs)).0 less) in
+        let same : p (get_or xs i x) ≡ true = ap p (get_or_from_slice_get xs i x x is) ∙ passes in
+        absurd (cc)
 
 -- what passes somewhere has a first place
 pub not_nowhere : {A : Type 0} (p : A → Bool) (xs : List A) (i : ℕ) (x : A) → slice_get xs i ≡ Some x → p x ≡ true → position p xs ≡ None → ⊥

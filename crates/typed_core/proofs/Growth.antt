@@ -49,7 +49,7 @@ pub record Even (w : World) : Type 0 where
   pub fields : w.field_names ≡ map (λ (d : FieldKnown). (d.class, d.name)) w.fields
   pub methods : w.method_names ≡ map (λ (m : MethodKnown). (m.class, m.name)) w.methods
 
-even_part : (n : ℕ) (default : Bool) (w : World) (p : Part) → Even w → Even (with_part n default w p)
+pub even_part : (n : ℕ) (default : Bool) (w : World) (p : Part) → Even w → Even (with_part n default w p)
 even_part n default w (invariant at e) even = even
 even_part n default w (field mods kind i) even =
     let d : FieldKnown = field_known w.classes n default mods kind i in
@@ -64,7 +64,7 @@ even_part n default w (method m) even =
       methods = ap (λ l. l ++ (d.class, d.name) ∷ []) even.methods ∙ sym (map-append (λ (x : MethodKnown). (x.class, x.name)) w.methods (d ∷ []));
     }
 
-even_parts : (n : ℕ) (default : Bool) (w : World) (ps : List Part) → Even w → Even (with_parts n default w ps)
+pub even_parts : (n : ℕ) (default : Bool) (w : World) (ps : List Part) → Even w → Even (with_parts n default w ps)
 even_parts n default w [] even = even
 even_parts n default w (p ∷ ps) even = even_parts n default (with_part n default w p) ps (even_part n default w p even)
 

@@ -1,6 +1,6 @@
 -- Members, classes and the whole text: the unit, or the faults. (Java Language Specification, "Classes"; JML Reference
 -- Manual, "Method Specifications", "Type Specifications".)
-use Rattle.std.specs.Prelude.{ℕ, ◌==◌, ◌&&◌, Bool, true, false, not, List, [], ◌∷◌, ◌++◌, length, map, Option, None, Some, option_map}
+use Rattle.std.specs.Prelude.{ℕ, ◌+◌, ◌==◌, ◌&&◌, Bool, true, false, not, List, [], ◌∷◌, ◌++◌, length, map, Option, None, Some, option_map}
 use Rattle.java_tree.specs.declared.names.Ident.{Ident}
 use Rattle.java_tree.specs.declared.names.Modifier.{Modifier}
 use Rattle.java_tree.specs.declared.names.TypeTree.{TypeTree}
@@ -14,7 +14,9 @@ use Rattle.taco_unit.specs.declared.unit.ClassDef.{ClassDef}
 use Rattle.taco_unit.specs.declared.unit.FieldDef.{FieldDef}
 use Rattle.taco_unit.specs.declared.unit.ParamDef.{ParamDef}
 use Rattle.taco_unit.specs.declared.unit.MethodDef.{MethodDef}
+use Rattle.std.specs.List.{list_all}
 use Rattle.taco_unit.specs.Parts.{Parts}
+use Rattle.taco_unit.specs.Words.{is_word}
 use Rattle.taco_unit.specs.Well.{fields_of, methods_of}
 use Rattle.typed_expressions.specs.declared.fault.Fault.{Fault}
 use Rattle.typed_expressions.specs.declared.fault.Many.TheVariants as many
@@ -128,8 +130,7 @@ seen_method w n default counts m =
 
 abbrev pub seen_part : World → ℕ → Bool → Counts → Part → Seen Made
 seen_part w n default counts (invariant at e) =
-    beside (many_clauses counts.invariants at)
-    (over (over (seen e (in_clause w (here_in n) form.Entry [])) clause_of) (λ c. Stands (made.Invariant c)))
+    over (beside (many_clauses counts.invariants at) (over (seen e (in_clause w (here_in n) form.Entry [])) clause_of)) (λ c. Stands (made.Invariant c))
 seen_part w n default counts (field mods type i) =
     unless (field_faults w n counts mods type i) (made.Field (field_def (field_known w.classes n default mods type i)))
 seen_part w n default counts (method m) = seen_method w n default counts m
@@ -200,7 +201,7 @@ class_def b n c = record { name = c.name; fields = fields_of (without_classes b)
 
 abbrev pub class_defs : Built → ℕ → List ClassPart → List ClassDef
 class_defs b n [] = []
-class_defs b n (c ∷ cs) = class_def b n c ∷ class_defs b (next n) cs
+class_defs b n (c ∷ cs) = class_def b n c ∷ class_defs b (n + 1) cs
 
 abbrev pub unit_of : Built → Parts
 unit_of b = record { classes = class_defs b 0 b.classes; fields = b.fields; methods = b.methods }
@@ -217,3 +218,17 @@ seen_text cs = seen_classes (world_of cs) 0 no_counts (Stands nothing_built) cs
 -- what a text stands for: its unit, or its faults
 abbrev pub resolved : Classes → Seen Parts
 resolved cs = over (seen_text cs) (λ b. Stands (unit_of b))
+
+-- THE SHAPE OF A TREE
+
+abbrev pub is_part_named : Part → Bool
+is_part_named (invariant at e) = true
+is_part_named (field mods type i) = is_word i.text
+is_part_named (method m) = is_word m.name.text && list_all (λ p. is_word p.name.text) m.params
+
+-- what is declared has words for names, as each text's tree has
+abbrev pub is_named : Class → Bool
+is_named c = is_word c.name.text && list_all is_part_named c.members
+
+abbrev pub are_named : Classes → Bool
+are_named cs = list_all is_named cs

@@ -454,7 +454,10 @@ fn member(
         Member::Invariant(at, tree) => {
             let here = here_in(alloc, owner);
             let value = clause(alloc, world, &here, Form::Entry, tree)?;
-            Ok(beside(many_fault(counts.invariants, *at), as_invariant(value)))
+            Ok(as_invariant(beside(
+                many_fault(counts.invariants, *at),
+                value,
+            )))
         }
         Member::Field(mods, kind, name) => {
             field(

@@ -7,5 +7,5 @@ use Rattle.typed_core.proofs.members.all_members.Given as goal
 -- what is left still gives the same
 abbrev pub invariant-loop-tree : goal.invariant-loop-tree
 invariant-loop-tree l =
-    (parts_told l.world l.owner l.default l.so_far l.done (map part_tree (drop l.tree-index l.trees)) ≡ parts_told l.world l.owner l.default l.counts (Ok no_members) (map part_tree l.trees))
-    × (counted_parts l.so_far (map part_tree (drop l.tree-index l.trees)) ≡ counted_parts l.counts (map part_tree l.trees))
+    (parts_told l.world l.owner l.default l.so_far l.done (map part_tree (drop l.tree-index l.trees)) ≡ parts_told l.world l.owner l.default l.initial.so_far (Ok no_members) (map part_tree l.trees))
+    × (counted_parts l.so_far (map part_tree (drop l.tree-index l.trees)) ≡ counted_parts l.initial.so_far (map part_tree l.trees))
