@@ -9,3 +9,4 @@ pub mod Totals
 pub mod PartsFine
 pub mod ClassesFine
 pub mod WellUnit
+pub mod Refusal

@@ -1,6 +1,8 @@
 -- A text without a fault stands for a unit that is well.
 use Rattle.std.proofs.Common.{◌≡◌, ◌≢◌, ◌≤◌, ◌<◌, ◌+◌, ℕ, zero, suc, Bool, true, false, List, [], ◌∷◌, ◌++◌, Option, None, Some, length, refl, ap, sym, ◌∙◌, subst, arith, get_or}
-use Rattle.std.specs.Prelude.{map, slice_get, option_map, option_and_then, count_by, ◌==◌, ◌&&◌, bytes_eq, nat_lt, AllPairs}
+use Rattle.std.specs.Prelude.{map, slice_get, option_map, option_and_then, count_by, ◌==◌, ◌&&◌, bytes_eq, filter, cond, AllPairs}
+use Rattle.std.specs.List.{range_with_len}
+use Rattle.std.specs.Option.{option_map_or}
 use Rattle.std.proofs.lemmas.Option.{slice_get_within, slice_get-map, get_or_from_slice_get}
 use Rattle.std.proofs.lemmas.Bool.{eqb-true}
 use Rattle.std.proofs.lemmas.List.{length-map}
@@ -12,7 +14,7 @@ use Rattle.taco_unit.specs.declared.unit.ClassDef.{ClassDef}
 use Rattle.taco_unit.specs.declared.unit.FieldDef.{FieldDef}
 use Rattle.taco_unit.specs.declared.unit.MethodDef.{MethodDef}
 use Rattle.taco_unit.specs.Parts.{Parts}
-use Rattle.taco_unit.specs.Kinds.{is_kind_of}
+use Rattle.taco_unit.specs.Words.{is_word}
 use Rattle.taco_unit.specs.Well.{IsWell, IsWellClass, IsWellField, IsWellMethod, fields_of, methods_of}
 use Rattle.typed_expressions.specs.declared.world.World.{World}
 use Rattle.typed_expressions.specs.declared.world.Slot.{Slot}
@@ -23,12 +25,13 @@ use Rattle.typed_expressions.specs.Lookups.{is_key, place_in, field_slot, slot}
 use Rattle.typed_expressions.specs.Calls.{byte, method_at, method_of}
 use Rattle.typed_statements.specs.Kinds.{kind_of}
 use Rattle.typed_statements.specs.Heads.{class_names, bare_world, with_classes, world_of}
-use Rattle.typed_statements.proofs.Stand.{OnStands}
+use Rattle.typed_statements.proofs.Stand.{OnStands, weaker}
+use Rattle.typed_statements.proofs.Suits.{is_kind}
 use Rattle.typed_statements.proofs.Agrees.{FieldAt, MethodAt, Knows, chained, mapped}
 use Rattle.typed_statements.proofs.CallKinds.{left_of, right_of}
 use Rattle.typed_core.specs.declared.members.Built.{Built}
 use Rattle.typed_core.specs.declared.members.ClassPart.{ClassPart}
-use Rattle.typed_core.specs.Members.{are_named, field_def, class_def, class_defs, unit_of, nothing_built, no_counts, seen_classes, seen_text}
+use Rattle.typed_core.specs.Members.{are_named, field_def, numbers_of, class_def, class_defs, unit_of, nothing_built, no_counts, seen_classes, seen_text}
 use Rattle.typed_core.proofs.Each.{Each, each_none, each_back, apart_from}
 use Rattle.typed_core.proofs.Growth.{After, after_classes, Even, even_classes}
 use Rattle.typed_core.proofs.Totals.{Whole, FieldFine, MethodFine}
@@ -36,26 +39,39 @@ use Rattle.typed_core.proofs.ClassesFine.{ClassFine, SoFar, AllFine, classes_fin
 
 -- CLASSES OF THE UNIT
 
-as_many : (b : Built) (n : ℕ) (cs : List ClassPart) → length (class_defs b n cs) ≡ length cs
-as_many b n [] = refl
-as_many b n (c ∷ cs) = ap suc (as_many b (n + 1) cs)
+pub as_many : (fs : List FieldDef) (ms : List MethodDef) (n : ℕ) (cs : List ClassPart) → length (class_defs fs ms n cs) ≡ length cs
+as_many fs ms n [] = refl
+as_many fs ms n (c ∷ cs) = ap suc (as_many fs ms (n + 1) cs)
 
-class_at : (b : Built) (n : ℕ) (cs : List ClassPart) (i : ℕ) (d : ClassDef) → slice_get (class_defs b n cs) i ≡ Some d → (c : ClassPart) × (slice_get cs i ≡ Some c) × (d ≡ class_def b (n + i) c)
-class_at b n [] i d is = absurd (cc)
-class_at b n (c ∷ cs) zero d is =
-    let same : class_def b n c ≡ d = cc in
+class_at : (fs : List FieldDef) (ms : List MethodDef) (n : ℕ) (cs : List ClassPart) (i : ℕ) (d : ClassDef) → slice_get (class_defs fs ms n cs) i ≡ Some d → (c : ClassPart) × (slice_get cs i ≡ Some c) × (d ≡ class_def fs ms (n + i) c)
+class_at fs ms n [] i d is = absurd (cc)
+class_at fs ms n (c ∷ cs) zero d is =
+    let same : class_def fs ms n c ≡ d = cc in
     let here : n ≡ n + 0 = omega arith in
-    (c, refl, sym same ∙ ap (λ k. class_def b k c) here)
-class_at b n (c ∷ cs) (suc i) d is =
-    let found = class_at b (n + 1) cs i d is in
+    (c, refl, sym same ∙ ap (λ k. class_def fs ms k c) here)
+class_at fs ms n (c ∷ cs) (suc i) d is =
+    let found = class_at fs ms (n + 1) cs i d is in
     let here : (n + 1) + i ≡ n + suc i = omega arith in
-    (found.0, found.1, found.2 ∙ ap (λ k. class_def b k found.0) here)
+    (found.0, found.1, found.2 ∙ ap (λ k. class_def fs ms k found.0) here)
 
-class_here : (b : Built) (i : ℕ) (d : ClassDef) → slice_get (unit_of b).classes i ≡ Some d → (c : ClassPart) × (slice_get b.classes i ≡ Some c) × (d ≡ class_def b i c)
+class_here : (b : Built) (i : ℕ) (d : ClassDef) → slice_get (unit_of b).classes i ≡ Some d → (c : ClassPart) × (slice_get b.classes i ≡ Some c) × (d ≡ class_def b.fields b.methods i c)
 class_here b i d is =
-    let found = class_at b 0 b.classes i d is in
+    let found = class_at b.fields b.methods 0 b.classes i d is in
     let here : 0 + i ≡ i = omega arith in
-    (found.0, found.1, found.2 ∙ ap (λ k. class_def b k found.0) here)
+    (found.0, found.1, found.2 ∙ ap (λ k. class_def b.fields b.methods k found.0) here)
+
+-- the numbers of a class are those at which its own stand
+numbers_from : {A : Type 0} (class : A → ℕ) (owner : ℕ) (ds : List A) (n : ℕ) (g : ℕ → Bool) → ((i : ℕ) → g (n + i) ≡ option_map_or (λ d. class d == owner) (slice_get ds i) false)
+    → numbers_of owner n (map class ds) ≡ filter g (range_with_len n (length ds))
+numbers_from class owner [] n g same = refl
+numbers_from class owner (d ∷ ds) n g same =
+    let here : g n ≡ (class d == owner) = ap g (omega arith) ∙ same 0 in
+    let rest : numbers_of owner (n + 1) (map class ds) ≡ filter g (range_with_len (n + 1) (length ds)) = numbers_from class owner ds (n + 1) g (λ i. ap g (omega arith) ∙ same (suc i)) in
+    ap (λ l. cond (class d == owner) (n ∷ l) l) rest ∙ ap (λ b. cond b (n ∷ filter g (range_with_len (n + 1) (length ds))) (filter g (range_with_len (n + 1) (length ds)))) (sym here)
+
+numbers_are : {A : Type 0} (class : A → ℕ) (owner : ℕ) (ds : List A) → numbers_of owner 0 (map class ds) ≡ filter (λ i. option_map_or (λ d. class d == owner) (slice_get ds i) false) (range_with_len 0 (length ds))
+numbers_are class owner ds =
+    numbers_from class owner ds 0 (λ i. option_map_or (λ d. class d == owner) (slice_get ds i) false) (λ i. ap (λ k. option_map_or (λ d. class d == owner) (slice_get ds k) false) (omega arith))
 
 -- NAMES
 
@@ -82,7 +98,7 @@ long_text : (w : World) (all : Classes) → w.classes ≡ class_names all → le
 long_text w all names = ap length names ∙ length-map all (λ (x : Class). (0, x.name.text))
 
 many_classes : (w : World) (all : Classes) (b : Built) → w.classes ≡ class_names all → AllFine w all b → length (unit_of b).classes ≡ length w.classes
-many_classes w all b names fine = as_many b 0 b.classes ∙ sym fine.classes.same ∙ sym (long_text w all names)
+many_classes w all b names fine = as_many b.fields b.methods 0 b.classes ∙ sym fine.classes.same ∙ sym (long_text w all names)
 
 class_known : (w : World) (all : Classes) (b : Built) → w.classes ≡ class_names all → AllFine w all b → (name : List ℕ) (c : ℕ) → place_in w.classes 0 name ≡ Some c → c < length (unit_of b).classes
 class_known w all b names fine name c is =
@@ -109,7 +125,7 @@ field_known_at w all b even fine owner name s is =
       at = ap (slice_get b.fields) place ∙ there.1;
       class = ap (λ (x : FieldDef). x.class) there.2.is ∙ ap byte own;
       kind = ap (λ (x : FieldDef). x.kind) there.2.is ∙ ap kind_of k;
-      fixed = ap Rattle.typed_statements.proofs.Suits.is_kind (sym k) ∙ there.2.fixed;
+      fixed = ap is_kind (sym k) ∙ there.2.fixed;
     }
 
 method_by : (w : World) (all : Classes) (b : Built) → Even w → AllFine w all b → (owner : ℕ) (i : Ident) (m : ℕ × MethodKnown) (found : Option ℕ) → place_in w.method_names owner i.text ≡ found → method_at w found ≡ Some m → MethodAt (unit_of b) owner m
@@ -158,12 +174,12 @@ well_class w all b whole fine c d is =
     let found = class_here b c d is in
     let back = each_back (ClassFine w) all b.classes fine.classes c found.0 found.1 in
     let P : ClassDef → Type 0 = λ x. IsWellClass (unit_of b) c x in
-    let Named : List ℕ → Type 0 = λ x. Rattle.taco_unit.specs.Words.is_word x ≡ true in
+    let Named : List ℕ → Type 0 = λ x. is_word x ≡ true in
     subst P (sym found.2)
     (record {
       named = subst Named (sym back.2.name) back.2.named;
-      lists_fields = refl;
-      lists_methods = refl;
+      lists_fields = numbers_are (λ (x : FieldDef). x.class) c b.fields;
+      lists_methods = numbers_are (λ (x : MethodDef). x.class) c b.methods;
       invariants = back.2.invariants (unit_of b) whole;
       few_invariants = back.2.few;
     })
@@ -242,7 +258,7 @@ text_well cs named =
     let bare : World = bare_world (class_names cs) in
     let names : w.classes ≡ class_names cs = (after_classes 0 bare cs).classes in
     let even_bare : Even bare = record { fields = refl; methods = refl } in
-    Rattle.typed_statements.proofs.Stand.weaker (AllFine w cs) (λ b. IsWell (unit_of b)) (seen_text cs)
+    weaker (AllFine w cs) (λ b. IsWell (unit_of b)) (seen_text cs)
     (classes_fine w bare cs [] cs 0 no_counts (Stands nothing_built) names refl refl even_bare named
     (record {
       classes = each_none (ClassFine w);

@@ -1,6 +1,6 @@
 -- Members, classes and the whole text: the unit, or the faults. (Java Language Specification, "Classes"; JML Reference
 -- Manual, "Method Specifications", "Type Specifications".)
-use Rattle.std.specs.Prelude.{ℕ, ◌+◌, ◌==◌, ◌&&◌, Bool, true, false, not, List, [], ◌∷◌, ◌++◌, length, map, Option, None, Some, option_map}
+use Rattle.std.specs.Prelude.{ℕ, ◌+◌, ◌==◌, ◌&&◌, Bool, true, false, not, List, [], ◌∷◌, ◌++◌, length, map, cond, Option, None, Some, option_map}
 use Rattle.java_tree.specs.declared.names.Ident.{Ident}
 use Rattle.java_tree.specs.declared.names.Modifier.{Modifier}
 use Rattle.java_tree.specs.declared.names.TypeTree.{TypeTree}
@@ -17,7 +17,6 @@ use Rattle.taco_unit.specs.declared.unit.MethodDef.{MethodDef}
 use Rattle.std.specs.List.{list_all}
 use Rattle.taco_unit.specs.Parts.{Parts}
 use Rattle.taco_unit.specs.Words.{is_word}
-use Rattle.taco_unit.specs.Well.{fields_of, methods_of}
 use Rattle.typed_expressions.specs.declared.fault.Fault.{Fault}
 use Rattle.typed_expressions.specs.declared.fault.Many.TheVariants as many
 use Rattle.typed_expressions.specs.declared.fault.Cause.TheVariants.{Twice, TooMany}
@@ -192,19 +191,21 @@ seen_classes w n counts so_far (c ∷ cs) =
 
 -- THE UNIT
 
--- the unit's fields and methods, as far as their numbers go
-abbrev pub without_classes : Built → Parts
-without_classes b = record { classes = []; fields = b.fields; methods = b.methods }
+-- those of these places, counted from `n` on, at which the owner stands
+abbrev pub numbers_of : ℕ → ℕ → List ℕ → List ℕ
+numbers_of owner n [] = []
+numbers_of owner n (o ∷ os) = cond (o == owner) (n ∷ numbers_of owner (n + 1) os) (numbers_of owner (n + 1) os)
 
-abbrev pub class_def : Built → ℕ → ClassPart → ClassDef
-class_def b n c = record { name = c.name; fields = fields_of (without_classes b) n; methods = methods_of (without_classes b) n; invariants = c.invariants }
+-- the class of this number with the numbers of its fields and methods
+abbrev pub class_def : List FieldDef → List MethodDef → ℕ → ClassPart → ClassDef
+class_def fs ms n c = record { name = c.name; fields = numbers_of n 0 (map (λ (d : FieldDef). d.class) fs); methods = numbers_of n 0 (map (λ (d : MethodDef). d.class) ms); invariants = c.invariants }
 
-abbrev pub class_defs : Built → ℕ → List ClassPart → List ClassDef
-class_defs b n [] = []
-class_defs b n (c ∷ cs) = class_def b n c ∷ class_defs b (n + 1) cs
+abbrev pub class_defs : List FieldDef → List MethodDef → ℕ → List ClassPart → List ClassDef
+class_defs fs ms n [] = []
+class_defs fs ms n (c ∷ cs) = class_def fs ms n c ∷ class_defs fs ms (n + 1) cs
 
 abbrev pub unit_of : Built → Parts
-unit_of b = record { classes = class_defs b 0 b.classes; fields = b.fields; methods = b.methods }
+unit_of b = record { classes = class_defs b.fields b.methods 0 b.classes; fields = b.fields; methods = b.methods }
 
 abbrev pub nothing_built : Built
 nothing_built = record { classes = []; fields = []; methods = [] }

@@ -2,7 +2,7 @@ ghost use Rattle.std.specs.Prelude.{◌≡◌, ◌∷◌, ◌++◌, [], ℕ, map
 ghost use Rattle.java_tree.specs.Seen.{class_tree, classes_tree};
 ghost use Rattle.typed_expressions.specs.Faults.{soonest};
 ghost use Rattle.typed_expressions.specs.Seen.{told, on, on_two, Stands};
-ghost use Rattle.typed_core.specs.Members.{class_def as class_def_lem, class_defs as class_defs_lem, class_faults, no_counts, nothing_built, seen_class, seen_classes, seen_text, with_class as with_class_lem, counted_parts, fresh_class};
+ghost use Rattle.typed_core.specs.Members.{class_faults, no_counts, nothing_built, seen_class, seen_classes, seen_text, with_class as with_class_lem, counted_parts, fresh_class};
 
 use crate::members::{Built, ClassPart, Counts, Members, all_members, is_first};
 use java_tree::{ClassTree, Tree};
@@ -120,7 +120,7 @@ fn classes(
     Ok(done)
 }
 
-/// What a text stands for, or its fault.
+/// What a text stands for, but for the lists of its classes, or its fault.
 pub(crate) fn built(alloc: Global, tree: &Tree) -> Result<Result<Built, Fault>, NoMemory>
     ensures { IfOk result (λ r. r ≡ told (seen_text (classes_tree tree.now))) }
 {

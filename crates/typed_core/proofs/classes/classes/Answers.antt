@@ -4,7 +4,7 @@ use Rattle.java_tree.specs.Seen.{class_tree}
 use Rattle.typed_core.specs.Members.{no_counts}
 use Rattle.typed_core.specs.Reported.{classes_told}
 use Rattle.typed_core.proofs.Parts.{told-classes}
-use Rattle.typed_core.proofs.resolve.classes.Goals as goal
+use Rattle.typed_core.proofs.classes.classes.Goals as goal
 
 pub returns : goal.returns
 returns c =

@@ -2,7 +2,7 @@ use Rattle.std.proofs.Common.{◌≡◌, Ok, drop, map}
 use Rattle.java_tree.specs.Seen.{class_tree}
 use Rattle.typed_core.specs.Members.{no_counts, nothing_built}
 use Rattle.typed_core.specs.Reported.{classes_told}
-use Rattle.typed_core.proofs.resolve.classes.Given as goal
+use Rattle.typed_core.proofs.classes.classes.Given as goal
 
 -- what is left still gives the same
 abbrev pub invariant-loop-tree : goal.invariant-loop-tree
