@@ -22,5 +22,5 @@ pub use operators::{wanted, wants};
 pub use sort::{Sort, fits};
 pub use typed::{Arguments, Called, Given, Place, Spot, Typed, byte, typed_place};
 pub use world::{
-    Declared, FieldKnown, Form, Here, MethodKnown, ParamKnown, ResultKnown, World, is_fresh,
+    Declared, FieldKnown, Form, Here, MethodKnown, ParamKnown, ResultKnown, Slot, World, is_fresh,
 };

@@ -95,9 +95,9 @@ pub enum Form {
 
 /// A field or a variable that a name means.
 #[derive(Clone, Copy, Debug, PartialEq, Eq)]
-pub(crate) struct Slot {
-    pub(crate) number: usize,
-    pub(crate) sort: Sort,
+pub struct Slot {
+    pub number: usize,
+    pub sort: Sort,
 }
 
 /// The place of the class of this name.

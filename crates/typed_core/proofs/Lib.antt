@@ -1,0 +1,12 @@
+pub mod Lists
+pub mod Parts
+pub mod Each
+pub mod Growth
+pub mod Parameters
+pub mod Clauses
+pub mod Methods
+pub mod Totals
+pub mod PartsFine
+pub mod ClassesFine
+pub mod WellUnit
+pub mod Refusal

@@ -1,0 +1,12 @@
+//! The unit of a tree, or its first fault of names and kinds.
+#![tactic(auto)]
+
+mod classes;
+mod fault;
+mod members;
+mod resolution;
+mod unit;
+
+pub use fault::NameFault;
+pub use resolution::resolve;
+pub use typed_expressions::Many;

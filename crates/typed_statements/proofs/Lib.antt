@@ -1,0 +1,11 @@
+pub mod Lists
+pub mod Forms
+pub mod Steps
+pub mod Stand
+pub mod Suits
+pub mod OperatorKinds
+pub mod Agrees
+pub mod CallKinds
+pub mod ExpressionKinds
+pub mod Fitting
+pub mod BodiesFit
