@@ -365,6 +365,10 @@ outside_written (Plain front) at text n tokens is h = plain_written false front 
 outside_written (Note content whole closed) at text n tokens is h =
     note_each (λ t. IsWritten t.kind) closed (λ at text n tokens. plain_written true (front_in closed text) at text n tokens (λ s m. inside_kind closed text s m)) (at + 2) (take content (drop 2 text)) tokens h.1
 
--- each word and each number of a text can be written again
+-- each word and each number of a piece can be written again
+pub piece_written : (at : ℕ) (text : List ℕ) (n : ℕ) (tokens : List Token) → IsPiece at text n tokens → AllWritten tokens
+piece_written at text n tokens piece = outside_written (front_out text) at text n tokens (outside_kind text) piece
+
+-- so can those of a text
 pub cut_written : (text : List ℕ) (ts : List Token) (cut : Cut text ts) → AllWritten cut.before
-cut_written text ts cut = chain_each (λ t. IsWritten t.kind) IsPiece (λ at text n tokens. outside_written (front_out text) at text n tokens (outside_kind text)) cut.leads.lengths 0 text cut.before (length text) [] cut.leads.chain
+cut_written text ts cut = chain_each (λ t. IsWritten t.kind) IsPiece piece_written cut.leads.lengths 0 text cut.before (length text) [] cut.leads.chain

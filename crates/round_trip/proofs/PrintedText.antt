@@ -175,7 +175,7 @@ pub spellable_front : (v w : List Word) → AllSpellable (v ++ w) → AllSpellab
 spellable_front [] w good = tt
 spellable_front (x ∷ v) w good = (good.0, spellable_front v w good.1)
 
-spellable_behind : (v w : List Word) → AllSpellable (v ++ w) → AllSpellable w
+pub spellable_behind : (v w : List Word) → AllSpellable (v ++ w) → AllSpellable w
 spellable_behind [] w good = good
 spellable_behind (x ∷ v) w good = spellable_behind v w good.1
 

@@ -107,6 +107,13 @@ read_by cs b tokens known_so parse =
       same = same;
     }
 
+-- each word that is written of a text can stand in one
+pub words_spell : (text : List ℕ) (tokens : List Token) (cs : Classes) → Cut text tokens → Parse tokens cs → AllSpellable (tree_written cs)
+words_spell text tokens cs cut parse =
+    let (m, mid, is_unit, last) = parse.parse in
+    let (known_behind, redo) = (unit_again cs).again 0 tokens m mid (subst Known (sym cut.whole) (known cut.before (end_at (length text)) (cut_written text tokens cut) refl)) is_unit in
+    redo.good
+
 pub read_again : (text : List ℕ) (tokens : List Token) (cs : Classes) → Cut text tokens → Parse tokens cs → IsReadAgain cs
 read_again text tokens [] cut parse = absurd parse.parse.2.0
 read_again text tokens (c ∷ cs) cut parse =
