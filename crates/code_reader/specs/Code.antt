@@ -1,5 +1,5 @@
 -- The readers of expressions that statements are read with.
-use Rattle.std.specs.Prelude.{ℕ, Bool, true, false}
+use Rattle.std.specs.Prelude.{ℕ, true, false}
 use Rattle.java_tree.specs.Trees.{Expr, Exprs}
 use Rattle.reading_core.specs.Deeper.{bracket, always}
 use Rattle.expression_reading.specs.Reading.{expression_in, arguments_in, below}

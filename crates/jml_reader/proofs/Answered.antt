@@ -1,6 +1,6 @@
 -- From what reading gives to what a clause answers.
-use Rattle.std.proofs.Common.{◌≡◌, ℕ, ◌+◌, ◌-◌, ◌<◌, ◌≤◌, zero, suc, Bool, true, false, nat_le, List, [], ◌∷◌, ◌++◌, length, drop, take, refl, sym, ◌∙◌, ap, subst, arith, ◌⊎◌, inl, inr, append_assoc, length-append, length-drop}
-use Rattle.std.specs.Prelude.{Option, Some, None, MatchOption, Result, Ok, Err}
+use Rattle.std.proofs.Common.{◌≡◌, ℕ, ◌-◌, ◌<◌, ◌≤◌, zero, suc, Bool, true, false, List, [], ◌∷◌, ◌++◌, length, drop, take, refl, sym, ◌∙◌, ap, subst, arith, inl, inr, append_assoc, length-append, length-drop}
+use Rattle.std.specs.Prelude.{Option, Some, None, MatchOption, Ok, Err}
 use Rattle.std.proofs.lemmas.Bool.{le-leb, leb-true}
 use Rattle.std.proofs.lemmas.List.{take-append-drop}
 use Rattle.std.proofs.Math.Seq.{drop-append_seam}
@@ -9,31 +9,28 @@ use Rattle.java_lex.specs.declared.spelling.Terminal.TheVariants as terminal
 use Rattle.java_lex.specs.declared.token.Token.{Token}
 use Rattle.java_lex.specs.Terminals.{terminal_of, terminal_of_kind}
 use Rattle.java_tree.specs.Trees.{Expr}
-use Rattle.java_tree.specs.Phrases.{Phrase, Limit, closed}
-use Rattle.java_tree.specs.Expressions.{predicate, phrase}
+use Rattle.java_tree.specs.Expressions.{predicate}
 use Rattle.java_tree.specs.Reading.{some_predicate, within, FirstWrong, FirstDeep, absent}
 use Rattle.java_tree.proofs.Limits.{predicate_sub}
 use Rattle.reading_core.specs.Read.{Read, Got, Bad, Deep, OnGot, on, at_side, is_name, is_name_terminal, is_open_terminal, is_close_terminal, is_comma_terminal, is_semicolon_terminal, is_open, is_close, is_comma, is_semicolon}
 use Rattle.reading_core.specs.Deeper.{always}
-use Rattle.reading_core.specs.Machine.{Test, Act, Take, Open, Leave, Refuse, Step, On, OnOpen, Stop, Next, Fine, BadAt, DeepAt, act, then_, takes_if, opens_if, step, run}
+use Rattle.reading_core.specs.Machine.{Act, Take, Open, Leave, Refuse, Step, On, OnOpen, Stop, Fine, BadAt, DeepAt, act, then_, takes_if, opens_if, step, run}
 use Rattle.reading_core.specs.Follow.{follow, behind}
 use Rattle.reading_core.specs.Exact.{Decided, up_to_64}
 use Rattle.reading_core.proofs.Runs.{tested, when_true, when_false}
-use Rattle.reading_core.proofs.Instance.{Owes}
 use Rattle.reading_core.proofs.Told.{always_counts, bad_told, got_told, deep_told}
-use Rattle.expression_reading.specs.Operators.{sign_of, link_at, link_of}
+use Rattle.expression_reading.specs.Operators.{sign_of, link_at}
 use Rattle.expression_reading.specs.Free.{IsFree}
-use Rattle.expression_reading.specs.Reading.{below, operand_in, expression_in, is_word, is_dot, is_dot_terminal}
+use Rattle.expression_reading.specs.Reading.{expression_in, is_word, is_dot, is_dot_terminal}
 use Rattle.java_lex.specs.declared.words.TheConstants.{HAS, INT_SIZE}
-use Rattle.expression_reading.specs.declared.operators.Link.TheVariants as link
-use Rattle.expression_reading.specs.Wants.{Want, Operand, Chain, Steps, Called, Step as StepWant, Args, MoreArgs, New, NewOpen, Bracket, Empty, Group, Second, Reach, Fields, Dot, Question, Name, Close, Comma, Semicolon, is_ready, unary_starts, starts, goes_on, steps_on, calls, args_start, args_go_on, group_on, second_on, fields_on, question_on, reacts}
+use Rattle.expression_reading.specs.Wants.{Want, Operand, Chain, Steps, Called, Step as StepWant, Args, MoreArgs, New, NewOpen, Bracket, Empty, Group, Second, Reach, Fields, Dot, Question, Name, Close, Comma, Semicolon, is_ready, starts, goes_on, steps_on, calls, args_start, args_go_on, group_on, second_on, fields_on, question_on}
 use Rattle.expression_reading.proofs.Alone.{react, start, alone, endings, owes}
 use Rattle.expression_reading.proofs.Complete.{complete}
 use Rattle.java_lex.specs.declared.spelling.Absent.{Absent}
 use Rattle.java_tree.specs.declared.clauses.JmlTree.{JmlTree}
 use Rattle.java_tree.specs.Seen.{jml_tree}
 use Rattle.jml_reader.specs.declared.fault.SyntaxFault.{SyntaxFault}
-use Rattle.jml_reader.specs.declared.fault.SyntaxFault.TheVariants.{Syntax, Unsupported, Deep as DeepFault, NoMemory}
+use Rattle.jml_reader.specs.declared.fault.SyntaxFault.TheVariants.{Syntax, Unsupported}
 use Rattle.jml_reader.specs.Clause.{Answers, DeepOf, IsEnded, IsClause, Reads, WrongOf}
 
 -- THE END IS TAKEN BY NOTHING

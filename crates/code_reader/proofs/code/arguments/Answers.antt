@@ -1,4 +1,4 @@
-use Rattle.std.proofs.Common.{false, Vec, Global}
+use Rattle.std.proofs.Common.{Vec, Global}
 use Rattle.java_tree.specs.declared.expressions.JavaTree.{JavaTree}
 use Rattle.java_tree.specs.Seen.{java_trees}
 use Rattle.code_reader.specs.Code.{arguments_at}

@@ -1,4 +1,4 @@
-use Rattle.std.proofs.Common.{rules, ◌≡◌, true, ap, subst, sym}
+use Rattle.std.proofs.Common.{rules, ◌≡◌, true, subst, sym}
 use Rattle.std.specs.Prelude.{Err}
 use Rattle.java_tree.specs.Trees.{Expr}
 use Rattle.java_tree.specs.Seen.{jml_tree}

@@ -1,7 +1,6 @@
 use Rattle.std.proofs.Common.{◌≡◌, List, [], ◌∷◌, ◌++◌, refl, sym, subst}
 use Rattle.java_lex.specs.declared.token.Token.{Token}
 use Rattle.java_lex.specs.declared.token.TokenKind.TheVariants.{End}
-use Rattle.java_lex.specs.Cut.{end_at}
 use Rattle.jml_reader.specs.Clause.{IsEnded}
 use Rattle.jml_reader.proofs.tests.lexed.Goals as goal
 
