@@ -6,3 +6,6 @@ pub mod Below
 pub mod Following
 pub mod Complete
 pub mod Alone
+pub mod Operands
+pub mod Shorter
+pub mod Gathered

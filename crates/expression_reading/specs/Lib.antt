@@ -4,3 +4,4 @@ pub mod Wants
 pub mod Ends
 pub mod Levels
 pub mod Free
+pub mod Parts
