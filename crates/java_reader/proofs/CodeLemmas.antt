@@ -20,7 +20,7 @@ use Rattle.java_reading.specs.declared.form.Turn.{Turn}
 use Rattle.java_reading.specs.declared.form.Turn.TheVariants.{Goes}
 use Rattle.java_reading.specs.Readers.{Reader, head, give, and_then, repeat_by, repeat, left_below}
 use Rattle.java_reading.specs.StatementReading.{turn_of, turn_in, reached_in, further_in, step_in, statement_at, statement_in, under_at, stmts_of}
-use Rattle.java_reading.specs.Gives.{Blames}
+
 
 -- the place of a tree is its first token's
 pub place_node : (at : ℕ) (node : JavaNode) → place (java_node at node) ≡ at

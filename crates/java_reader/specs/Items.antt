@@ -8,7 +8,7 @@ use Rattle.java_reading.specs.Readers.{Reader, give, second, and_then, repeat}
 use Rattle.java_reading.specs.Tokens.{fixed, name_in, next_is}
 use Rattle.java_reading.specs.StatementReading.{declaration_in}
 use Rattle.java_reading.specs.MemberReading.{parameter_in, more_parameters_in}
-use Rattle.java_reader.specs.Code.{expression_at, arguments_at}
+use Rattle.text_reading.specs.Readers.{expression_at, arguments_at}
 
 -- "," Decl
 abbrev pub comma_declaration_in : ℕ → Reader Decl

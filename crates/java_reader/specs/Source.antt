@@ -1,5 +1,5 @@
 -- What reading a text answers.
-use Rattle.std.specs.Prelude.{◌≡◌, ℕ, List, [], ◌∷◌, Option, Some, None, MatchOption, Result, Ok, Err}
+use Rattle.std.specs.Prelude.{◌≡◌, ◌⊎◌, ℕ, List, [], ◌∷◌, Option, Some, None, MatchOption, Result, Ok, Err}
 use Rattle.java_lex.specs.declared.token.Token.{Token}
 use Rattle.java_lex.specs.declared.spelling.Absent.{Absent}
 use Rattle.java_lex.specs.declared.fault.LexFault.{LexFault}
@@ -9,6 +9,7 @@ use Rattle.java_tree.specs.declared.members.Tree.{Tree}
 use Rattle.java_tree.specs.Trees.{Classes}
 use Rattle.java_tree.specs.Seen.{classes_tree}
 use Rattle.java_tree.specs.Reading.{some_text, Parse, FirstWrong, FirstDeep, absent}
+use Rattle.text_reading.specs.Verdicts.{Verdict, Text, WrongFrom, DeepFrom}
 use Rattle.java_reader.specs.declared.fault.SourceFault.{SourceFault}
 use Rattle.java_reader.specs.declared.fault.SourceFault.TheVariants.{BadToken, Syntax, Unsupported, Deep, NoMemory}
 
@@ -48,15 +49,6 @@ Answers text (Err (Unsupported part at)) = IsWrongAt text at (Some part)
 Answers text (Err (Deep at)) = IsDeepAt text at
 Answers text (Err NoMemory) = Unit {0}
 
--- The answer is this tree, or want of memory.
-abbrev pub Reads : Result Tree SourceFault → Classes → Type 0
-Reads (Ok tree) cs = classes_tree tree ≡ cs
-Reads (Err (BadToken at)) cs = ⊥
-Reads (Err (Syntax at)) cs = ⊥
-Reads (Err (Unsupported part at)) cs = ⊥
-Reads (Err (Deep at)) cs = ⊥
-Reads (Err NoMemory) cs = Unit {0}
-
 -- the fault of a token with which no text begins
 abbrev pub WrongOf : List Token → SourceFault → Type 0
 WrongOf [] fault = Unit {0}
@@ -66,3 +58,16 @@ WrongOf (t ∷ ts) fault = MatchOption (absent t) (fault ≡ Syntax t.from) (λ 
 abbrev pub DeepOf : List Token → SourceFault → Type 0
 DeepOf [] fault = Unit {0}
 DeepOf (t ∷ ts) fault = fault ≡ Deep t.from
+
+-- The answer is what the verdict on the tokens says, or want of memory.
+abbrev pub Is : Result Tree SourceFault → Verdict → Type 0
+Is (Ok tree) (Text cs) = classes_tree tree ≡ cs
+Is (Ok tree) (WrongFrom rest) = ⊥
+Is (Ok tree) (DeepFrom rest) = ⊥
+Is (Err fault) (Text cs) = fault ≡ NoMemory
+Is (Err fault) (WrongFrom rest) = (fault ≡ NoMemory) ⊎ WrongOf rest fault
+Is (Err fault) (DeepFrom rest) = (fault ≡ NoMemory) ⊎ DeepOf rest fault
+
+-- The answer is this fault, or want of memory.
+abbrev pub Fails : Result Tree SourceFault → SourceFault → Type 0
+Fails result fault = (result ≡ Err fault) ⊎ (result ≡ Err NoMemory)

@@ -7,7 +7,7 @@ ghost use Rattle.reading_core.specs.Gives.{Gives};
 ghost use Rattle.java_reading.specs.Readers.{give, head};
 ghost use Rattle.java_reading.specs.PartForms.{begins_part};
 ghost use Rattle.java_reading.specs.MemberReading.{begins_class, class_in, classes_in, members_in};
-ghost use Rattle.java_reader.specs.Code.{arguments_at, expression_at, predicate_at};
+ghost use Rattle.text_reading.specs.Readers.{arguments_at, expression_at, predicate_at};
 ghost use Rattle.java_reader.specs.Seen.{declared_seen};
 
 use crate::members::{Declared, member};

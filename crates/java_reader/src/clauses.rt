@@ -4,7 +4,7 @@ ghost use Rattle.reading_core.specs.Gives.{Gives};
 ghost use Rattle.java_reading.specs.Readers.{head};
 ghost use Rattle.java_reading.specs.Tokens.{at_head};
 ghost use Rattle.java_reading.specs.MemberReading.{clause_in, clause_word_in, clauses_in, is_clause};
-ghost use Rattle.java_reader.specs.Code.{arguments_at, expression_at, predicate_at};
+ghost use Rattle.text_reading.specs.Readers.{arguments_at, expression_at, predicate_at};
 ghost use Rattle.java_reader.specs.Seen.{word_seen};
 
 use crate::stub::predicate;

@@ -2,7 +2,7 @@ ghost use Rattle.std.specs.Prelude.{◌≡◌, ◌<◌, false, IfOk, length, map
 ghost use Rattle.java_tree.specs.Seen.{decl_tree, java_tree, stmt_tree};
 ghost use Rattle.reading_core.specs.Gives.{Gives};
 ghost use Rattle.java_reading.specs.StatementReading.{declaration_in, declarations_in, declared_in, local_in, more_declarations_in, value_in};
-ghost use Rattle.java_reader.specs.Code.{arguments_at, expression_at};
+ghost use Rattle.text_reading.specs.Readers.{arguments_at, expression_at};
 ghost use Rattle.java_reader.specs.Items.{comma_declaration_in};
 
 use crate::modifiers::{Modified, modifiers};

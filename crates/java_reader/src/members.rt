@@ -4,7 +4,7 @@ ghost use Rattle.java_tree.specs.Seen.{clause_tree, param_tree, part_tree, stmt_
 ghost use Rattle.reading_core.specs.Gives.{Gives};
 ghost use Rattle.java_reading.specs.Readers.{give};
 ghost use Rattle.java_reading.specs.MemberReading.{body_in, declared_part_in, has_static as has_static_lem, invariant_in, is_static as is_static_lem, member_in, method_in, named_part_in, names_in, normal_in, result_in, specified_in, visible_in};
-ghost use Rattle.java_reader.specs.Code.{arguments_at, expression_at, predicate_at};
+ghost use Rattle.text_reading.specs.Readers.{arguments_at, expression_at, predicate_at};
 ghost use Rattle.java_reader.specs.Items.{comma_name_in, more_names_in};
 ghost use Rattle.java_reader.specs.Seen.{declared_seen};
 

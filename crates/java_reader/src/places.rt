@@ -7,7 +7,7 @@ ghost use Rattle.java_reading.specs.Readers.{give};
 ghost use Rattle.java_reading.specs.Tokens.{fixed as fixed_lem};
 ghost use Rattle.java_reading.specs.declared.marks.Fixed.TheVariants.{Semicolon as FixedSemicolon};
 ghost use Rattle.java_reading.specs.StatementReading.{assigned_in, further_in, named_in, reached_in, step_in};
-ghost use Rattle.java_reader.specs.Code.{arguments_at, expression_at};
+ghost use Rattle.text_reading.specs.Readers.{arguments_at, expression_at};
 ghost use Rattle.java_reader.specs.Targets.{called_on, plain_of};
 
 use crate::stub::{arguments, expression};

@@ -1,9 +1,8 @@
-ghost use Rattle.std.specs.Prelude.{◌≡◌, ◌≤◌, List, length};
-ghost use Rattle.java_lex.specs.Cut.{Cut};
+ghost use Rattle.std.specs.Prelude.{◌≤◌, ℕ, List, length};
+ghost use Rattle.java_lex.specs.Cut.{BadAt, Cut};
 ghost use Rattle.java_lex.specs.declared.token.Token.{Token as TokenOf};
-ghost use Rattle.java_tree.specs.Trees.{Classes};
-ghost use Rattle.java_tree.specs.Reading.{Parse};
-ghost use Rattle.java_reader.specs.Source.{Answers, DeepOf, Reads, WrongOf};
+ghost use Rattle.text_reading.specs.Verdicts.{Holds, Verdict};
+ghost use Rattle.java_reader.specs.Source.{Answers, DeepOf, Fails, Is, WrongOf};
 
 use crate::fault::SourceFault;
 use crate::units::whole_text;
@@ -45,8 +44,9 @@ fn deep(tokens: &[Token]) -> SourceFault
 pub fn read_unit(alloc: Global, text: &[u8]) -> Result<Tree, SourceFault>
     requires { length text.now ≤ 67108864 }
     ensures answers { Answers text.now result }
-    // a text of the grammar is read as its tree
-    ensures reads { (ts : List TokenOf) (cs : Classes) → Cut text.now ts → Parse ts cs → Reads result cs }
+    // the bytes are cut into tokens, of which this verdict holds
+    ensures judged { (ts : List TokenOf) (v : Verdict) → Cut text.now ts → Holds ts v → Is result v }
+    ensures bad { (at : ℕ) → BadAt text.now at → Fails result (SourceFault.BadToken at) }
 {
     let tokens = tokens(alloc, text)?;
     match whole_text(alloc, LEVELS, tokens.as_slice()) {

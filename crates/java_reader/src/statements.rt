@@ -5,7 +5,8 @@ ghost use Rattle.reading_core.specs.Gives.{Gives};
 ghost use Rattle.java_reading.specs.Forms.{begins_statement};
 ghost use Rattle.java_reading.specs.Readers.{head};
 ghost use Rattle.java_reading.specs.StatementReading.{behind_name_in, block_in, condition_in, else_in, if_in, returned_in, statement_at, statements_in, under_at, while_in};
-ghost use Rattle.java_reader.specs.Code.{arguments_at, expression_at, headed_at};
+ghost use Rattle.text_reading.specs.Readers.{arguments_at, expression_at};
+ghost use Rattle.java_reader.specs.Code.{headed_at};
 
 use crate::declarations::{declared, local};
 use crate::places::{named, reached};

@@ -1,6 +1,6 @@
 ghost use Rattle.std.specs.Prelude.{◌<◌, IfOk, length};
 ghost use Rattle.java_tree.specs.Seen.{java_tree, java_trees, jml_tree};
-ghost use Rattle.java_reader.specs.Code.{arguments_at, expression_at, predicate_at};
+ghost use Rattle.text_reading.specs.Readers.{arguments_at, expression_at, predicate_at};
 ghost use Rattle.reading_core.specs.Gives.{Gives};
 
 use java_lex::Token;

@@ -2,7 +2,7 @@ ghost use Rattle.std.specs.Prelude.{◌≡◌, map};
 ghost use Rattle.java_tree.specs.Seen.{class_tree, classes_tree};
 ghost use Rattle.reading_core.specs.Gives.{Gives};
 ghost use Rattle.java_reading.specs.MemberReading.{text_in, unit_in};
-ghost use Rattle.java_reader.specs.Code.{arguments_at, expression_at, predicate_at};
+ghost use Rattle.text_reading.specs.Readers.{arguments_at, expression_at, predicate_at};
 
 use crate::classes::classes;
 use crate::headers::{skip_imports, skip_own_package};

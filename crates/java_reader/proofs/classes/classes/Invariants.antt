@@ -1,7 +1,7 @@
 use Rattle.std.proofs.Common.{◌<◌, Bool, true, false, length, map}
 use Rattle.java_tree.specs.Seen.{class_tree}
 use Rattle.java_reading.specs.MemberReading.{begins_class, class_in, classes_in}
-use Rattle.java_reader.specs.Code.{expression_at, arguments_at, predicate_at}
+use Rattle.text_reading.specs.Readers.{expression_at, arguments_at, predicate_at}
 use Rattle.java_reader.proofs.Loops.{SoFar}
 use Rattle.java_reader.proofs.classes.classes.Given as goal
 

@@ -2,7 +2,7 @@ use Rattle.std.proofs.Common.{◌≡◌, ◌≤◌, length, map}
 use Rattle.java_tree.specs.Seen.{part_tree}
 use Rattle.java_reading.specs.PartForms.{begins_part}
 use Rattle.java_reading.specs.MemberReading.{member_in, members_in}
-use Rattle.java_reader.specs.Code.{expression_at, arguments_at, predicate_at}
+use Rattle.text_reading.specs.Readers.{expression_at, arguments_at, predicate_at}
 use Rattle.java_reader.proofs.MemberLoops.{PartsSoFar}
 use Rattle.java_reader.proofs.classes.members.Given as goal
 

@@ -2,7 +2,7 @@ use Rattle.std.proofs.Common.{◌≤◌, Bool, true, false, length, map}
 use Rattle.java_tree.specs.Seen.{clause_tree}
 use Rattle.java_reading.specs.Tokens.{at_head}
 use Rattle.java_reading.specs.MemberReading.{clause_in, clauses_in, is_clause}
-use Rattle.java_reader.specs.Code.{expression_at, arguments_at, predicate_at}
+use Rattle.text_reading.specs.Readers.{expression_at, arguments_at, predicate_at}
 use Rattle.java_reader.proofs.Loops.{SoFar}
 use Rattle.java_reader.proofs.clauses.clauses.Given as goal
 

@@ -3,7 +3,7 @@ use Rattle.java_tree.specs.Seen.{decl_tree}
 use Rattle.java_reading.specs.declared.marks.Fixed.TheVariants.{Comma}
 use Rattle.java_reading.specs.Tokens.{next_is}
 use Rattle.java_reading.specs.StatementReading.{declarations_in}
-use Rattle.java_reader.specs.Code.{expression_at, arguments_at}
+use Rattle.text_reading.specs.Readers.{expression_at, arguments_at}
 use Rattle.java_reader.specs.Items.{comma_declaration_in}
 use Rattle.java_reader.proofs.Loops.{SoFar}
 use Rattle.java_reader.proofs.declarations.declarations.Given as goal

@@ -2,7 +2,7 @@ use Rattle.std.proofs.Common.{◌+◌, ◌*◌, ◌≤◌, length, map}
 use Rattle.java_tree.specs.Seen.{stmt_tree}
 use Rattle.java_reading.specs.Forms.{begins_statement}
 use Rattle.java_reading.specs.StatementReading.{statement_at, statements_in}
-use Rattle.java_reader.specs.Code.{expression_at, arguments_at}
+use Rattle.text_reading.specs.Readers.{expression_at, arguments_at}
 use Rattle.java_reader.proofs.Loops.{SoFar}
 use Rattle.java_reader.proofs.statements.+statements.Given as goal
 
@@ -27,11 +27,11 @@ decreases-conditional l = 4 * l.left + 1
 abbrev pub decreases-alternative : goal.decreases-alternative
 decreases-alternative l = 4 * l.left
 
-abbrev pub invariant-more : goal.invariant-more
-invariant-more l = record {
+abbrev pub invariant-statements-more : goal.invariant-statements-more
+invariant-statements-more l = record {
   reads : SoFar begins_statement (statement_at expression_at arguments_at l.left) (statements_in expression_at arguments_at l.left l.fn.tokens) (map stmt_tree l.statements.items) l.rest;
   within : length l.rest ≤ length l.fn.tokens
 }
 
-abbrev pub decreases-more : goal.decreases-more
-decreases-more l = length l.rest
+abbrev pub decreases-statements-more : goal.decreases-statements-more
+decreases-statements-more l = length l.rest
