@@ -15,7 +15,11 @@ use std::alloc::Global;
 /// it: it takes all that goes on with it. Otherwise the tokens from the first one on with which none begins, or from
 /// the one on that opens a level too many. Linear in the tokens that are read. (Java Language Specification,
 /// "Expressions".)
-pub fn expression(alloc: Global, left: u8, tokens: &[Token]) -> Result<(JavaTree, &[Token]), Stop<'_>>
+pub fn expression(
+    alloc: Global,
+    left: u8,
+    tokens: &[Token],
+) -> Result<(JavaTree, &[Token]), Stop<'_>>
     ensures is { MatchResult result (λ x. expression_at left tokens.now ≡ Got (java_tree x.0) x.1.now) (λ stop. Blames stop (expression_at left tokens.now)) }
     ensures shorter { IfOk result (λ x. length x.1.now < length tokens.now) }
 {
@@ -25,7 +29,11 @@ pub fn expression(alloc: Global, left: u8, tokens: &[Token]) -> Result<(JavaTree
 /// Arguments in their brackets at the head of the tokens, where so many levels of nesting are left, and the tokens
 /// behind them; or the tokens from the one at fault on, as `expression` has them. Linear in the tokens that are
 /// read. (Java Language Specification, "Method Invocation Expressions".)
-pub fn arguments(alloc: Global, left: u8, tokens: &[Token]) -> Result<(Vec<JavaTree>, &[Token]), Stop<'_>>
+pub fn arguments(
+    alloc: Global,
+    left: u8,
+    tokens: &[Token],
+) -> Result<(Vec<JavaTree>, &[Token]), Stop<'_>>
     ensures is { MatchResult result (λ x. arguments_at left tokens.now ≡ Got (java_trees x.0.items) x.1.now) (λ stop. Blames stop (arguments_at left tokens.now)) }
     ensures shorter { IfOk result (λ x. length x.1.now < length tokens.now) }
 {

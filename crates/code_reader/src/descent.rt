@@ -4,7 +4,7 @@ ghost use Rattle.reading_core.specs.Deeper.{bracket};
 ghost use Rattle.reading_core.specs.Gives.{Gives};
 ghost use Rattle.expression_reading.specs.Levels.{readers_of, within_left};
 ghost use Rattle.expression_reading.specs.Parts.{grouped_in, negated_in, subtracted_in};
-ghost use Rattle.expression_reading.specs.Reading.{arguments_in, chain_in, first_is, operand_in, paren_in, steps_in, unary_in};
+ghost use Rattle.expression_reading.specs.Reading.{argument_in, arguments_in, chain_in, first_is, operand_in, steps_in, unary_in};
 ghost use Rattle.reading_core.specs.Read.{is_close, is_comma};
 ghost use Rattle.code_reader.specs.Descent.{given_in, made_in, named_in, step_of};
 
@@ -21,7 +21,12 @@ pub(crate) const TOP: u8 = 6;
 
 /// An operand of the number: from the unary operators (0) to a whole expression (6).
 #[cycle(descent)]
-pub(crate) fn operand<'a>(alloc: Global, tokens: &'a [Token], left: u8, number: u8) -> Result<(JavaTree, &'a [Token]), Stop<'a>>
+pub(crate) fn operand<'a>(
+    alloc: Global,
+    tokens: &'a [Token],
+    left: u8,
+    number: u8,
+) -> Result<(JavaTree, &'a [Token]), Stop<'a>>
     requires { number ≤ 6 }
     ensures { Gives java_tree result (operand_in false (within_left false left) number tokens.now) }
 {
@@ -36,7 +41,13 @@ pub(crate) fn operand<'a>(alloc: Global, tokens: &'a [Token], left: u8, number: 
 
 /// How a chain of operands of the number goes on behind its left part.
 #[cycle(descent)]
-fn chain<'a>(alloc: Global, tokens: &'a [Token], left: u8, number: u8, start: JavaTree) -> Result<(JavaTree, &'a [Token]), Stop<'a>>
+fn chain<'a>(
+    alloc: Global,
+    tokens: &'a [Token],
+    left: u8,
+    number: u8,
+    start: JavaTree,
+) -> Result<(JavaTree, &'a [Token]), Stop<'a>>
     requires { number < 6 }
     ensures { Gives java_tree result (chain_in false (within_left false left) number (java_tree start) tokens.now) }
 {
@@ -63,7 +74,11 @@ fn chain<'a>(alloc: Global, tokens: &'a [Token], left: u8, number: u8, start: Ja
 
 /// What begins with the first token: an operand of the number 0.
 #[cycle(descent)]
-fn unary<'a>(alloc: Global, tokens: &'a [Token], left: u8) -> Result<(JavaTree, &'a [Token]), Stop<'a>>
+fn unary<'a>(
+    alloc: Global,
+    tokens: &'a [Token],
+    left: u8,
+) -> Result<(JavaTree, &'a [Token]), Stop<'a>>
     ensures { Gives java_tree result (unary_in false (within_left false left) tokens.now) }
 {
     let Some((token, rest)) = first(tokens) else {
@@ -87,7 +102,13 @@ fn unary<'a>(alloc: Global, tokens: &'a [Token], left: u8) -> Result<(JavaTree, 
 
 /// The operand behind a `!`, which opens a level.
 #[cycle(descent)]
-fn negated<'a>(alloc: Global, tokens: &'a [Token], at: u32, rest: &'a [Token], left: u8) -> Result<(JavaTree, &'a [Token]), Stop<'a>>
+fn negated<'a>(
+    alloc: Global,
+    tokens: &'a [Token],
+    at: u32,
+    rest: &'a [Token],
+    left: u8,
+) -> Result<(JavaTree, &'a [Token]), Stop<'a>>
     ensures { Gives java_tree result (negated_in false left at tokens.now rest.now) }
 {
     let Some(less) = deeper(left) else {
@@ -100,7 +121,13 @@ fn negated<'a>(alloc: Global, tokens: &'a [Token], at: u32, rest: &'a [Token], l
 
 /// The operand behind a `-`, which opens a level.
 #[cycle(descent)]
-fn subtracted<'a>(alloc: Global, tokens: &'a [Token], at: u32, rest: &'a [Token], left: u8) -> Result<(JavaTree, &'a [Token]), Stop<'a>>
+fn subtracted<'a>(
+    alloc: Global,
+    tokens: &'a [Token],
+    at: u32,
+    rest: &'a [Token],
+    left: u8,
+) -> Result<(JavaTree, &'a [Token]), Stop<'a>>
     ensures { Gives java_tree result (subtracted_in false left at tokens.now rest.now) }
 {
     let Some(less) = deeper(left) else {
@@ -113,7 +140,13 @@ fn subtracted<'a>(alloc: Global, tokens: &'a [Token], at: u32, rest: &'a [Token]
 
 /// An expression in brackets behind its `(`, which opens a level, and what goes on with it by steps.
 #[cycle(descent)]
-fn group<'a>(alloc: Global, tokens: &'a [Token], at: u32, rest: &'a [Token], left: u8) -> Result<(JavaTree, &'a [Token]), Stop<'a>>
+fn group<'a>(
+    alloc: Global,
+    tokens: &'a [Token],
+    at: u32,
+    rest: &'a [Token],
+    left: u8,
+) -> Result<(JavaTree, &'a [Token]), Stop<'a>>
     ensures { Gives java_tree result (grouped_in false left at tokens.now rest.now) }
 {
     let Some(less) = deeper(left) else {
@@ -127,7 +160,12 @@ fn group<'a>(alloc: Global, tokens: &'a [Token], at: u32, rest: &'a [Token], lef
 
 /// A name, its arguments if it has some, and what goes on with it by steps.
 #[cycle(descent)]
-fn named<'a>(alloc: Global, word: &Token, tokens: &'a [Token], left: u8) -> Result<(JavaTree, &'a [Token]), Stop<'a>>
+fn named<'a>(
+    alloc: Global,
+    word: &Token,
+    tokens: &'a [Token],
+    left: u8,
+) -> Result<(JavaTree, &'a [Token]), Stop<'a>>
     ensures { Gives java_tree result (named_in left word.now tokens.now) }
 {
     let name = ident(alloc, word)?;
@@ -138,7 +176,12 @@ fn named<'a>(alloc: Global, word: &Token, tokens: &'a [Token], left: u8) -> Resu
 
 /// A new object behind its `new`, and what goes on with it by steps.
 #[cycle(descent)]
-fn made<'a>(alloc: Global, at: u32, tokens: &'a [Token], left: u8) -> Result<(JavaTree, &'a [Token]), Stop<'a>>
+fn made<'a>(
+    alloc: Global,
+    at: u32,
+    tokens: &'a [Token],
+    left: u8,
+) -> Result<(JavaTree, &'a [Token]), Stop<'a>>
     ensures { Gives java_tree result (made_in left at tokens.now) }
 {
     let (word, rest) = name(tokens, false)?;
@@ -149,16 +192,21 @@ fn made<'a>(alloc: Global, at: u32, tokens: &'a [Token], left: u8) -> Result<(Ja
 
 /// The names that are read or called behind an expression, each behind a `.`, which opens a level.
 #[cycle(descent)]
-fn steps<'a>(alloc: Global, tokens: &'a [Token], left: u8, start: JavaTree) -> Result<(JavaTree, &'a [Token]), Stop<'a>>
+fn steps<'a>(
+    alloc: Global,
+    tokens: &'a [Token],
+    left: u8,
+    start: JavaTree,
+) -> Result<(JavaTree, &'a [Token]), Stop<'a>>
     ensures { Gives java_tree result (steps_in false (within_left false left) (java_tree start) tokens.now) }
 {
     let mut tree = start;
     let mut rest = tokens;
     let mut levels = left;
     while let Some((token, behind)) = first(rest) {
-        if !matches!(terminal_at(token, false), Terminal::Dot) {
+        let Terminal::Dot = terminal_at(token, false) else {
             return Ok((tree, rest));
-        }
+        };
         let Some(less) = deeper(levels) else {
             return Err(Stop::Deep(rest));
         };
@@ -172,7 +220,12 @@ fn steps<'a>(alloc: Global, tokens: &'a [Token], left: u8, start: JavaTree) -> R
 
 /// A name behind a target and its `.`, and its arguments if it has some.
 #[cycle(descent)]
-fn step<'a>(alloc: Global, tokens: &'a [Token], left: u8, target: JavaTree) -> Result<(JavaTree, &'a [Token]), Stop<'a>>
+fn step<'a>(
+    alloc: Global,
+    tokens: &'a [Token],
+    left: u8,
+    target: JavaTree,
+) -> Result<(JavaTree, &'a [Token]), Stop<'a>>
     ensures { Gives java_tree result (step_of left (java_tree target) tokens.now) }
 {
     let (word, rest) = name(tokens, false)?;
@@ -184,7 +237,11 @@ fn step<'a>(alloc: Global, tokens: &'a [Token], left: u8, target: JavaTree) -> R
 
 /// The arguments behind a name, if it has some.
 #[cycle(descent)]
-fn given<'a>(alloc: Global, tokens: &'a [Token], left: u8) -> Result<(Option<Vec<JavaTree>>, &'a [Token]), Stop<'a>>
+fn given<'a>(
+    alloc: Global,
+    tokens: &'a [Token],
+    left: u8,
+) -> Result<(Option<Vec<JavaTree>>, &'a [Token]), Stop<'a>>
     ensures { Gives (option_map (λ v. java_trees v.items)) result (given_in left tokens.now) }
 {
     let Some((token, _behind)) = first(tokens) else {
@@ -199,7 +256,11 @@ fn given<'a>(alloc: Global, tokens: &'a [Token], left: u8) -> Result<(Option<Vec
 
 /// Arguments in their brackets, which open a level.
 #[cycle(descent)]
-pub(crate) fn arguments<'a>(alloc: Global, tokens: &'a [Token], left: u8) -> Result<(Vec<JavaTree>, &'a [Token]), Stop<'a>>
+pub(crate) fn arguments<'a>(
+    alloc: Global,
+    tokens: &'a [Token],
+    left: u8,
+) -> Result<(Vec<JavaTree>, &'a [Token]), Stop<'a>>
     ensures { Gives (λ v. java_trees v.items) result (bracket false (within_left false left) tokens.now arguments_in) }
 {
     let (_open, rest) = open(tokens, false)?;
@@ -213,7 +274,11 @@ pub(crate) fn arguments<'a>(alloc: Global, tokens: &'a [Token], left: u8) -> Res
 
 /// The arguments in their brackets, up to the `)`; their level is open.
 #[cycle(descent)]
-fn inside<'a>(alloc: Global, tokens: &'a [Token], less: u8) -> Result<(Vec<JavaTree>, &'a [Token]), Stop<'a>>
+fn inside<'a>(
+    alloc: Global,
+    tokens: &'a [Token],
+    less: u8,
+) -> Result<(Vec<JavaTree>, &'a [Token]), Stop<'a>>
     ensures { Gives (λ v. java_trees v.items) result (arguments_in (readers_of false less) tokens.now) }
 {
     let mut arguments = Vec::new(alloc);
@@ -223,12 +288,24 @@ fn inside<'a>(alloc: Global, tokens: &'a [Token], less: u8) -> Result<(Vec<JavaT
     let (tree, mut rest) = operand(alloc, tokens, less, TOP)?;
     arguments.push(tree)?;
     'arguments: while goes_on_by_comma(rest) {
-        let (_comma, behind) = comma(rest, false)?;
-        let (tree, after) = operand(alloc, behind, less, TOP)?;
+        let (tree, after) = argument(alloc, rest, less)?;
         arguments.push(tree)?;
         rest = after;
     }
     Ok((arguments, rest))
+}
+
+/// One more argument, behind its comma.
+#[cycle(descent)]
+fn argument<'a>(
+    alloc: Global,
+    tokens: &'a [Token],
+    less: u8,
+) -> Result<(JavaTree, &'a [Token]), Stop<'a>>
+    ensures { Gives java_tree result (argument_in (readers_of false less) tokens.now) }
+{
+    let (_comma, rest) = comma(tokens, false)?;
+    operand(alloc, rest, less, TOP)
 }
 
 /// Whether a `)` comes first.

@@ -40,7 +40,12 @@ pub(crate) fn paren(alloc: Global, at: u32, tree: JavaTree) -> Result<JavaTree, 
 }
 
 /// Two expressions with an operator between them.
-pub(crate) fn bin(alloc: Global, sign: Sign, left: JavaTree, right: JavaTree) -> Result<JavaTree, NoMemory>
+pub(crate) fn bin(
+    alloc: Global,
+    sign: Sign,
+    left: JavaTree,
+    right: JavaTree,
+) -> Result<JavaTree, NoMemory>
     ensures { IfOk result (λ t. java_tree t ≡ bin_lem (place (java_tree left)) sign (java_tree left) (java_tree right)) }
 {
     let at = left.at;
@@ -83,7 +88,12 @@ fn call(name: Ident, arguments: Vec<JavaTree>) -> JavaTree
 }
 
 /// A call behind a target and its `.`.
-fn call_on(alloc: Global, target: JavaTree, name: Ident, arguments: Vec<JavaTree>) -> Result<JavaTree, NoMemory>
+fn call_on(
+    alloc: Global,
+    target: JavaTree,
+    name: Ident,
+    arguments: Vec<JavaTree>,
+) -> Result<JavaTree, NoMemory>
     ensures { IfOk result (λ t. java_tree t ≡ call_on_lem (place (java_tree target)) (java_tree target) name (java_trees arguments.items)) }
 {
     let at = target.at;
@@ -95,7 +105,12 @@ fn call_on(alloc: Global, target: JavaTree, name: Ident, arguments: Vec<JavaTree
 }
 
 /// A name with its arguments, behind a target and its `.`, or alone. The memory of a box with a target, none without.
-pub fn called(alloc: Global, target: Option<JavaTree>, name: Ident, arguments: Vec<JavaTree>) -> Result<JavaTree, NoMemory>
+pub fn called(
+    alloc: Global,
+    target: Option<JavaTree>,
+    name: Ident,
+    arguments: Vec<JavaTree>,
+) -> Result<JavaTree, NoMemory>
     ensures { IfOk result (λ t. java_tree t ≡ called_on (option_map java_tree target) name (java_trees arguments.items)) }
 {
     match target {
@@ -105,7 +120,12 @@ pub fn called(alloc: Global, target: Option<JavaTree>, name: Ident, arguments: V
 }
 
 /// A name, with its arguments if it has some, behind a target and its `.`, or alone.
-pub(crate) fn step(alloc: Global, target: Option<JavaTree>, name: Ident, arguments: Option<Vec<JavaTree>>) -> Result<JavaTree, NoMemory>
+pub(crate) fn step(
+    alloc: Global,
+    target: Option<JavaTree>,
+    name: Ident,
+    arguments: Option<Vec<JavaTree>>,
+) -> Result<JavaTree, NoMemory>
     ensures { IfOk result (λ t. java_tree t ≡ step_on (option_map java_tree target) name (option_map (λ v. java_trees v.items) arguments)) }
 {
     match arguments {

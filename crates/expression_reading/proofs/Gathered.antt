@@ -1,6 +1,6 @@
 -- A loop that gathers parts which come any number of times.
 use Rattle.std.proofs.Common.{◌≡◌, true, false, Bool, List, [], ◌∷◌, ◌++◌, sym, ◌∙◌, ap, refl, append_assoc, append-nil}
-use Rattle.std.specs.Prelude.{Result, Err}
+use Rattle.std.specs.Prelude.{Err}
 use Rattle.java_lex.specs.declared.token.Token.{Token}
 use Rattle.reading_core.specs.declared.stop.Stop.{Stop}
 use Rattle.reading_core.specs.declared.stop.Stop.TheVariants as stop

@@ -1,5 +1,5 @@
 -- What is read leaves fewer tokens behind it.
-use Rattle.std.proofs.Common.{◌≡◌, ℕ, ◌<◌, ◌≤◌, Bool, true, false, zero, suc, nat_le, List, [], ◌∷◌, length, sym, subst, ap, arith}
+use Rattle.std.proofs.Common.{◌≡◌, ℕ, ◌<◌, ◌≤◌, Bool, true, false, zero, suc, nat_le, List, ◌∷◌, length, sym, subst, ap, arith}
 use Rattle.std.specs.Prelude.{IfOk, Result, Ok, Err}
 use Rattle.std.specs.Borrow.{Bor}
 use Rattle.std.proofs.lemmas.Bool.{le-leb, lt-leb}
@@ -85,3 +85,6 @@ arguments_fewer (suc left) ts =
 pub gives_fewer : {T A : Type 0} (seen : T → A) (result : Result (T × Bor (List Token)) Stop) (ts : List Token) (r : Read A) → Gives seen result r → OnGot (Fewer ts) r → IfOk result (λ x. length x.1.now < length ts)
 gives_fewer seen (Ok x) ts r gives on = subst (OnGot (Fewer ts)) gives on
 gives_fewer seen (Err why) ts r gives on = tt {0}
+
+pub got_fewer : {A : Type 0} (ts : List Token) (r : Read A) (a : A) (rest : List Token) → r ≡ Got a rest → OnGot (Fewer ts) r → length rest < length ts
+got_fewer ts r a rest is on = subst (OnGot (Fewer ts)) is on

@@ -120,8 +120,9 @@ ended_by : (t u : Token) (ts : List Token) (b : Bool) → ((ws : List Want) → 
 ended_by t u ts b ih (On ws) fine = ih ws fine
 ended_by t u ts b ih (OnOpen k ws) fine =
     elim (tested (up_to_64 k (u ∷ ts))) [
-      inl is ↦ ih ws (sym (when_true (up_to_64 k (u ∷ ts)) _ _ is) ∙ fine)
-    | inr not ↦ let no : DeepAt (t ∷ u ∷ ts) ≡ Fine b = sym (when_false (up_to_64 k (u ∷ ts)) _ _ not) ∙ fine in cc ]
+      | inl is ↦ ih ws (sym (when_true (up_to_64 k (u ∷ ts)) _ _ is) ∙ fine)
+      | inr not ↦ let no : DeepAt (t ∷ u ∷ ts) ≡ Fine b = sym (when_false (up_to_64 k (u ∷ ts)) _ _ not) ∙ fine in cc
+    ]
 ended_by t u ts b ih Stop fine = cc
 
 ended : (ts : List Token) (ws : List Want) (b : Bool) → IsEnded ts → run react is_ready up_to_64 ts ws ≡ Fine b → ⊥

@@ -15,7 +15,9 @@ use expression_reading::{Link, deeper, empty, goes_on};
 use java_lex::words::{HAS, INT_SIZE};
 use java_lex::{Terminal, Token};
 use java_tree::{Ident, JmlNode, JmlTree, ReachTree, Sign};
-use reading_core::{Stop, close, comma, first, ident, is_word, name, number, open, semicolon, terminal_at};
+use reading_core::{
+    Stop, close, comma, first, ident, is_word, name, number, open, semicolon, terminal_at,
+};
 use std::alloc::Global;
 
 /// The number of a whole expression of a clause.
@@ -26,7 +28,12 @@ const IMPLIED: u8 = 7;
 
 /// An operand of the number: from the unary operators (0) to a whole expression (8).
 #[cycle(descent)]
-pub(crate) fn operand<'a>(alloc: Global, tokens: &'a [Token], left: u8, number: u8) -> Result<(JmlTree, &'a [Token]), Stop<'a>>
+pub(crate) fn operand<'a>(
+    alloc: Global,
+    tokens: &'a [Token],
+    left: u8,
+    number: u8,
+) -> Result<(JmlTree, &'a [Token]), Stop<'a>>
     requires { number ≤ 8 }
     ensures { Gives jml_tree result (operand_in true (within_left true left) number tokens.now) }
 {
@@ -41,7 +48,13 @@ pub(crate) fn operand<'a>(alloc: Global, tokens: &'a [Token], left: u8, number: 
 
 /// How a chain of operands of the number goes on behind its left part.
 #[cycle(descent)]
-fn chain<'a>(alloc: Global, tokens: &'a [Token], left: u8, number: u8, start: JmlTree) -> Result<(JmlTree, &'a [Token]), Stop<'a>>
+fn chain<'a>(
+    alloc: Global,
+    tokens: &'a [Token],
+    left: u8,
+    number: u8,
+    start: JmlTree,
+) -> Result<(JmlTree, &'a [Token]), Stop<'a>>
     requires { number < 8 }
     ensures { Gives jml_tree result (chain_in true (within_left true left) number (jml_tree start) tokens.now) }
 {
@@ -68,7 +81,13 @@ fn chain<'a>(alloc: Global, tokens: &'a [Token], left: u8, number: u8, start: Jm
 
 /// An operand behind `==>`, which opens a level.
 #[cycle(descent)]
-fn implied<'a>(alloc: Global, tokens: &'a [Token], behind: &'a [Token], left: u8, start: JmlTree) -> Result<(JmlTree, &'a [Token]), Stop<'a>>
+fn implied<'a>(
+    alloc: Global,
+    tokens: &'a [Token],
+    behind: &'a [Token],
+    left: u8,
+    start: JmlTree,
+) -> Result<(JmlTree, &'a [Token]), Stop<'a>>
     ensures { Gives jml_tree result (implied_in left (jml_tree start) tokens.now behind.now) }
 {
     let Some(less) = deeper(left) else {
@@ -81,7 +100,11 @@ fn implied<'a>(alloc: Global, tokens: &'a [Token], behind: &'a [Token], left: u8
 
 /// What begins with the first token: an operand of the number 0.
 #[cycle(descent)]
-fn unary<'a>(alloc: Global, tokens: &'a [Token], left: u8) -> Result<(JmlTree, &'a [Token]), Stop<'a>>
+fn unary<'a>(
+    alloc: Global,
+    tokens: &'a [Token],
+    left: u8,
+) -> Result<(JmlTree, &'a [Token]), Stop<'a>>
     ensures { Gives jml_tree result (unary_in true (within_left true left) tokens.now) }
 {
     let Some((token, rest)) = first(tokens) else {
@@ -117,7 +140,13 @@ fn leaf(at: u32, node: JmlNode) -> JmlTree
 
 /// The operand behind a `!`, which opens a level.
 #[cycle(descent)]
-fn negated<'a>(alloc: Global, tokens: &'a [Token], at: u32, rest: &'a [Token], left: u8) -> Result<(JmlTree, &'a [Token]), Stop<'a>>
+fn negated<'a>(
+    alloc: Global,
+    tokens: &'a [Token],
+    at: u32,
+    rest: &'a [Token],
+    left: u8,
+) -> Result<(JmlTree, &'a [Token]), Stop<'a>>
     ensures { Gives jml_tree result (negated_in true left at tokens.now rest.now) }
 {
     let Some(less) = deeper(left) else {
@@ -130,7 +159,13 @@ fn negated<'a>(alloc: Global, tokens: &'a [Token], at: u32, rest: &'a [Token], l
 
 /// The operand behind a `-`, which opens a level.
 #[cycle(descent)]
-fn subtracted<'a>(alloc: Global, tokens: &'a [Token], at: u32, rest: &'a [Token], left: u8) -> Result<(JmlTree, &'a [Token]), Stop<'a>>
+fn subtracted<'a>(
+    alloc: Global,
+    tokens: &'a [Token],
+    at: u32,
+    rest: &'a [Token],
+    left: u8,
+) -> Result<(JmlTree, &'a [Token]), Stop<'a>>
     ensures { Gives jml_tree result (subtracted_in true left at tokens.now rest.now) }
 {
     let Some(less) = deeper(left) else {
@@ -143,7 +178,13 @@ fn subtracted<'a>(alloc: Global, tokens: &'a [Token], at: u32, rest: &'a [Token]
 
 /// What stands behind a `(`, which opens a level: a quantifier, or an expression in brackets.
 #[cycle(descent)]
-fn group<'a>(alloc: Global, tokens: &'a [Token], at: u32, rest: &'a [Token], left: u8) -> Result<(JmlTree, &'a [Token]), Stop<'a>>
+fn group<'a>(
+    alloc: Global,
+    tokens: &'a [Token],
+    at: u32,
+    rest: &'a [Token],
+    left: u8,
+) -> Result<(JmlTree, &'a [Token]), Stop<'a>>
     ensures { Gives jml_tree result (grouped_in true left at tokens.now rest.now) }
 {
     let Some(less) = deeper(left) else {
@@ -161,7 +202,13 @@ fn group<'a>(alloc: Global, tokens: &'a [Token], at: u32, rest: &'a [Token], lef
 
 /// The rest of an expression in brackets, and what goes on with it by steps.
 #[cycle(descent)]
-fn paren<'a>(alloc: Global, at: u32, tokens: &'a [Token], left: u8, less: u8) -> Result<(JmlTree, &'a [Token]), Stop<'a>>
+fn paren<'a>(
+    alloc: Global,
+    at: u32,
+    tokens: &'a [Token],
+    left: u8,
+    less: u8,
+) -> Result<(JmlTree, &'a [Token]), Stop<'a>>
     requires { less < left }
     ensures { Gives jml_tree result (paren_in true (within_left true left) at (readers_of true less) tokens.now) }
 {
@@ -173,7 +220,13 @@ fn paren<'a>(alloc: Global, at: u32, tokens: &'a [Token], left: u8, less: u8) ->
 
 /// A quantifier behind its word; its level is open.
 #[cycle(descent)]
-fn quantified<'a>(alloc: Global, at: u32, all: bool, tokens: &'a [Token], less: u8) -> Result<(JmlTree, &'a [Token]), Stop<'a>>
+fn quantified<'a>(
+    alloc: Global,
+    at: u32,
+    all: bool,
+    tokens: &'a [Token],
+    less: u8,
+) -> Result<(JmlTree, &'a [Token]), Stop<'a>>
     ensures { Gives jml_tree result (quantified_in (readers_of true less) at all tokens.now) }
 {
     let (class, rest) = name(tokens, true)?;
@@ -197,7 +250,16 @@ fn quantified<'a>(alloc: Global, at: u32, all: bool, tokens: &'a [Token], less: 
 
 /// The body of a quantifier with a range, behind its second `;`; its level is open.
 #[cycle(descent)]
-fn ranged<'a>(alloc: Global, at: u32, all: bool, class: Ident, variable: Ident, range: JmlTree, tokens: &'a [Token], less: u8) -> Result<(JmlTree, &'a [Token]), Stop<'a>>
+fn ranged<'a>(
+    alloc: Global,
+    at: u32,
+    all: bool,
+    class: Ident,
+    variable: Ident,
+    range: JmlTree,
+    tokens: &'a [Token],
+    less: u8,
+) -> Result<(JmlTree, &'a [Token]), Stop<'a>>
     ensures { Gives jml_tree result (ranged_in less at all class variable (jml_tree range) tokens.now) }
 {
     let (body, rest) = operand(alloc, tokens, less, TOP)?;
@@ -208,7 +270,11 @@ fn ranged<'a>(alloc: Global, at: u32, all: bool, class: Ident, variable: Ident, 
 
 /// A whole expression in its brackets.
 #[cycle(descent)]
-fn bracketed<'a>(alloc: Global, tokens: &'a [Token], left: u8) -> Result<(JmlTree, &'a [Token]), Stop<'a>>
+fn bracketed<'a>(
+    alloc: Global,
+    tokens: &'a [Token],
+    left: u8,
+) -> Result<(JmlTree, &'a [Token]), Stop<'a>>
     ensures { Gives jml_tree result (bracketed_in left tokens.now) }
 {
     let (_open, rest) = open(tokens, true)?;
@@ -222,7 +288,12 @@ fn bracketed<'a>(alloc: Global, tokens: &'a [Token], left: u8) -> Result<(JmlTre
 
 /// `\old` behind its word.
 #[cycle(descent)]
-fn old<'a>(alloc: Global, at: u32, tokens: &'a [Token], left: u8) -> Result<(JmlTree, &'a [Token]), Stop<'a>>
+fn old<'a>(
+    alloc: Global,
+    at: u32,
+    tokens: &'a [Token],
+    left: u8,
+) -> Result<(JmlTree, &'a [Token]), Stop<'a>>
     ensures { Gives jml_tree result (old_in left at tokens.now) }
 {
     let (tree, rest) = bracketed(alloc, tokens, left)?;
@@ -232,7 +303,12 @@ fn old<'a>(alloc: Global, at: u32, tokens: &'a [Token], left: u8) -> Result<(Jml
 
 /// A reach behind its word, and what is asked of it.
 #[cycle(descent)]
-fn reached<'a>(alloc: Global, at: u32, tokens: &'a [Token], left: u8) -> Result<(JmlTree, &'a [Token]), Stop<'a>>
+fn reached<'a>(
+    alloc: Global,
+    at: u32,
+    tokens: &'a [Token],
+    left: u8,
+) -> Result<(JmlTree, &'a [Token]), Stop<'a>>
     ensures { Gives jml_tree result (reached_in left at tokens.now) }
 {
     let (reach, rest) = reach(alloc, tokens, left)?;
@@ -247,7 +323,11 @@ fn reached<'a>(alloc: Global, at: u32, tokens: &'a [Token], left: u8) -> Result<
 
 /// The brackets of a reach.
 #[cycle(descent)]
-fn reach<'a>(alloc: Global, tokens: &'a [Token], left: u8) -> Result<(ReachTree, &'a [Token]), Stop<'a>>
+fn reach<'a>(
+    alloc: Global,
+    tokens: &'a [Token],
+    left: u8,
+) -> Result<(ReachTree, &'a [Token]), Stop<'a>>
     ensures { Gives reach_of result (bracket true (within_left true left) tokens.now reach_in) }
 {
     let (_open, rest) = open(tokens, true)?;
@@ -261,7 +341,11 @@ fn reach<'a>(alloc: Global, tokens: &'a [Token], left: u8) -> Result<(ReachTree,
 
 /// What stands in the brackets of a reach; their level is open.
 #[cycle(descent)]
-fn inside<'a>(alloc: Global, tokens: &'a [Token], less: u8) -> Result<(ReachTree, &'a [Token]), Stop<'a>>
+fn inside<'a>(
+    alloc: Global,
+    tokens: &'a [Token],
+    less: u8,
+) -> Result<(ReachTree, &'a [Token]), Stop<'a>>
     ensures { Gives reach_of result (reach_in (readers_of true less) tokens.now) }
 {
     let (root, rest) = operand(alloc, tokens, less, TOP)?;
@@ -278,7 +362,13 @@ fn inside<'a>(alloc: Global, tokens: &'a [Token], less: u8) -> Result<(ReachTree
 
 /// What is asked of a reach, behind its `.`.
 #[cycle(descent)]
-fn question<'a>(alloc: Global, at: u32, reach: ReachTree, tokens: &'a [Token], left: u8) -> Result<(JmlTree, &'a [Token]), Stop<'a>>
+fn question<'a>(
+    alloc: Global,
+    at: u32,
+    reach: ReachTree,
+    tokens: &'a [Token],
+    left: u8,
+) -> Result<(JmlTree, &'a [Token]), Stop<'a>>
     ensures { Gives jml_tree result (question_in (within_left true left) at (reach_of reach) tokens.now) }
 {
     let Some((word, rest)) = first(tokens) else {

@@ -35,7 +35,11 @@ fn field<'a>(alloc: Global, tokens: &'a [Token]) -> Result<(Ident, &'a [Token]),
 }
 
 /// The fields of a reach: the first one, and those behind it, each behind a `+`. Linear in their bytes.
-pub(crate) fn fields<'a>(alloc: Global, tokens: &'a [Token], start: Ident) -> Result<(Vec<Ident>, &'a [Token]), Stop<'a>>
+pub(crate) fn fields<'a>(
+    alloc: Global,
+    tokens: &'a [Token],
+    start: Ident,
+) -> Result<(Vec<Ident>, &'a [Token]), Stop<'a>>
     ensures { Gives (λ v. v.items) result (fields_in start tokens.now) }
 {
     let mut names = Vec::new(alloc);

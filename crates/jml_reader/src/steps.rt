@@ -12,16 +12,21 @@ use reading_core::{Stop, first, ident, name, terminal_at};
 use std::alloc::Global;
 
 /// The names that are read behind an expression, each behind a `.`. Linear in their bytes.
-pub(crate) fn steps<'a>(alloc: Global, tokens: &'a [Token], left: u8, start: JmlTree) -> Result<(JmlTree, &'a [Token]), Stop<'a>>
+pub(crate) fn steps<'a>(
+    alloc: Global,
+    tokens: &'a [Token],
+    left: u8,
+    start: JmlTree,
+) -> Result<(JmlTree, &'a [Token]), Stop<'a>>
     ensures { Gives jml_tree result (steps_in true (within_left true left) (jml_tree start) tokens.now) }
 {
     let mut tree = start;
     let mut rest = tokens;
     let mut levels = left;
     while let Some((token, behind)) = first(rest) {
-        if !matches!(terminal_at(token, true), Terminal::Dot) {
+        let Terminal::Dot = terminal_at(token, true) else {
             return Ok((tree, rest));
-        }
+        };
         let Some(less) = deeper(levels) else {
             return Err(Stop::Deep(rest));
         };

@@ -65,7 +65,12 @@ pub(crate) fn read(alloc: Global, tree: JmlTree, name: Ident) -> Result<JmlTree,
 }
 
 /// Two expressions with an operator between them.
-pub(crate) fn bin(alloc: Global, sign: Sign, left: JmlTree, right: JmlTree) -> Result<JmlTree, NoMemory>
+pub(crate) fn bin(
+    alloc: Global,
+    sign: Sign,
+    left: JmlTree,
+    right: JmlTree,
+) -> Result<JmlTree, NoMemory>
     ensures { IfOk result (λ t. jml_tree t ≡ bin_lem (place (jml_tree left)) sign (jml_tree left) (jml_tree right)) }
 {
     let at = left.at;
@@ -78,7 +83,14 @@ pub(crate) fn bin(alloc: Global, sign: Sign, left: JmlTree, right: JmlTree) -> R
 }
 
 /// A quantifier with its body.
-pub(crate) fn quantifier(alloc: Global, at: u32, all: bool, class: Ident, name: Ident, body: JmlTree) -> Result<JmlTree, NoMemory>
+pub(crate) fn quantifier(
+    alloc: Global,
+    at: u32,
+    all: bool,
+    class: Ident,
+    name: Ident,
+    body: JmlTree,
+) -> Result<JmlTree, NoMemory>
     ensures { IfOk result (λ t. jml_tree t ≡ quant at all class name (jml_tree body)) }
 {
     let body = Box::new(alloc, body)?;
@@ -89,7 +101,15 @@ pub(crate) fn quantifier(alloc: Global, at: u32, all: bool, class: Ident, name: 
 }
 
 /// A quantifier with its range and its body.
-pub(crate) fn quantifier_in(alloc: Global, at: u32, all: bool, class: Ident, name: Ident, range: JmlTree, body: JmlTree) -> Result<JmlTree, NoMemory>
+pub(crate) fn quantifier_in(
+    alloc: Global,
+    at: u32,
+    all: bool,
+    class: Ident,
+    name: Ident,
+    range: JmlTree,
+    body: JmlTree,
+) -> Result<JmlTree, NoMemory>
     ensures { IfOk result (λ t. jml_tree t ≡ quant_in at all class name (jml_tree range) (jml_tree body)) }
 {
     let range = Box::new(alloc, range)?;
@@ -101,7 +121,12 @@ pub(crate) fn quantifier_in(alloc: Global, at: u32, all: bool, class: Ident, nam
 }
 
 /// What is asked of a reach: whether it has an object.
-pub(crate) fn has(alloc: Global, at: u32, reach: ReachTree, object: JmlTree) -> Result<JmlTree, NoMemory>
+pub(crate) fn has(
+    alloc: Global,
+    at: u32,
+    reach: ReachTree,
+    object: JmlTree,
+) -> Result<JmlTree, NoMemory>
     ensures { IfOk result (λ t. jml_tree t ≡ (let r = reach_of reach in has_lem at r.root r.kind r.fields (jml_tree object))) }
 {
     let object = Box::new(alloc, object)?;
@@ -122,7 +147,12 @@ pub(crate) fn size(at: u32, reach: ReachTree) -> JmlTree
 }
 
 /// The start of a reach, its class and its fields.
-pub(crate) fn reach(alloc: Global, root: JmlTree, class: Ident, fields: Vec<Ident>) -> Result<ReachTree, NoMemory>
+pub(crate) fn reach(
+    alloc: Global,
+    root: JmlTree,
+    class: Ident,
+    fields: Vec<Ident>,
+) -> Result<ReachTree, NoMemory>
     ensures { IfOk result (λ r. reach_of r ≡ record { root = jml_tree root; kind = class; fields = fields.items }) }
 {
     let root = Box::new(alloc, root)?;

@@ -60,13 +60,16 @@ abbrev pub decreases-steps : goal.decreases-steps
 decreases-steps l = 8 * l.left
 
 abbrev pub decreases-step : goal.decreases-step
-decreases-step l = 8 * l.left + 3
+decreases-step l = 8 * l.left + 4
 
 abbrev pub decreases-given : goal.decreases-given
-decreases-given l = 8 * l.left + 2
+decreases-given l = 8 * l.left + 3
 
 abbrev pub decreases-arguments : goal.decreases-arguments
-decreases-arguments l = 8 * l.left + 1
+decreases-arguments l = 8 * l.left + 2
 
 abbrev pub decreases-inside : goal.decreases-inside
-decreases-inside l = 8 * l.less + 8
+decreases-inside l = 8 * l.less + 9
+
+abbrev pub decreases-argument : goal.decreases-argument
+decreases-argument l = 8 * l.less + 8

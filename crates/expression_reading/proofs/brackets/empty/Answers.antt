@@ -1,5 +1,5 @@
 use Rattle.std.proofs.Common.{rules, ◌≡◌, ℕ, Bool, true, false, List, ◌∷◌, Bor, Option, Some, None, sym, ◌∙◌, ap, subst}
-use Rattle.std.specs.Prelude.{MatchOption, Result, Err}
+use Rattle.std.specs.Prelude.{Result, Err}
 use Rattle.java_lex.specs.declared.token.Token.{Token}
 use Rattle.reading_core.specs.declared.stop.Stop.{Stop}
 use Rattle.reading_core.specs.Deeper.{Level, deeper}
