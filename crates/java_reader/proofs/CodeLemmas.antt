@@ -22,27 +22,6 @@ use Rattle.java_reading.specs.Readers.{Reader, head, give, and_then, repeat_by, 
 use Rattle.java_reading.specs.StatementReading.{turn_of, turn_in, reached_in, further_in, step_in, statement_at, statement_in, under_at, stmts_of}
 
 
--- the place of a tree is its first token's
-pub place_node : (at : ℕ) (node : JavaNode) → place (java_node at node) ≡ at
-place_node at (block.Num n) = refl
-place_node at (block.Flag b) = refl
-place_node at block.Null = refl
-place_node at block.This = refl
-place_node at (block.New name) = refl
-place_node at (block.Named name) = refl
-place_node at (block.Call' name vec row) = refl
-place_node at (block.Read' p at_a a name) = refl
-place_node at (block.CallOn' p at_a a name vec row) = refl
-place_node at (block.Paren' p at_a a) = refl
-place_node at (block.Not' p at_a a) = refl
-place_node at (block.Neg' p at_a a) = refl
-place_node at (block.Bin' sign p at_a a q at_b b) = refl
-
--- a call behind a `.`, by the box that has what stands before it
-pub call_on_is : (target : JavaTree) (a : Box JavaTree Global) (name : Ident) (args : Vec JavaTree Global) → a.value ≡ target → java_node target.at (CallOn a name args) ≡ call_on (place (java_tree target)) (java_tree target) name (java_trees args.items)
-call_on_is target a name args is =
-    java_call_on target.at a name args ∙ ap (λ e. call_on target.at e name (java_trees args.items)) (ap java_tree is) ∙ ap (λ at. call_on at (java_tree target) name (java_trees args.items)) (sym (place_node target.at target.node))
-
 pub list_stmts : (ss : List StmtTree) → stmts_of (map stmt_tree ss) ≡ stmt_trees ss
 list_stmts [] = refl
 list_stmts (s ∷ ss) = ap (next (stmt_tree s)) (list_stmts ss)

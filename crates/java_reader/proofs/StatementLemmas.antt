@@ -20,7 +20,7 @@ use Rattle.java_reading.specs.Tokens.{fixed, next_is, next_is_name, stands}
 use Rattle.java_reading.specs.StatementReading.{stmts_of, statement_at, statement_in, statement_by, statements_in, under_at, headed_in, block_in, if_in, else_in, choice_of, behind_name_in, named_in, further_in}
 use Rattle.text_reading.specs.Readers.{expression_at, arguments_at}
 use Rattle.java_reader.specs.Code.{headed_at}
-use Rattle.java_reader.specs.Targets.{plain_of, called_on}
+use Rattle.code_reader.specs.Targets.{plain_of, called_on}
 use Rattle.java_reader.proofs.CodeLemmas.{list_stmts, statement_is}
 
 give_with : {A B C : Type 0} (f : B → C) (a : A) (o : Read B) → give (λ (x : A × B). f x.1) (with_first a o) ≡ give f o

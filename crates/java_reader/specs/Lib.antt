@@ -4,4 +4,3 @@ pub mod Items
 pub mod Modifiers
 pub mod Seen
 pub mod Source
-pub mod Targets

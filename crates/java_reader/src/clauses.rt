@@ -7,9 +7,9 @@ ghost use Rattle.java_reading.specs.MemberReading.{clause_in, clause_word_in, cl
 ghost use Rattle.text_reading.specs.Readers.{arguments_at, expression_at, predicate_at};
 ghost use Rattle.java_reader.specs.Seen.{word_seen};
 
-use crate::stub::predicate;
 use java_lex::{Terminal, Token};
 use java_reading::{Fixed, fixed};
+use jml_reader::predicate;
 use java_tree::SpecTree;
 use reading_core::{Stop, first, terminal_at};
 use std::alloc::Global;

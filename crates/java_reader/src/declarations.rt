@@ -6,8 +6,8 @@ ghost use Rattle.text_reading.specs.Readers.{arguments_at, expression_at};
 ghost use Rattle.java_reader.specs.Items.{comma_declaration_in};
 
 use crate::modifiers::{Modified, modifiers};
-use crate::stub::expression;
 use crate::types::kind;
+use code_reader::expression;
 use java_lex::Token;
 use java_reading::{Fixed, fixed, name, next_is};
 use java_tree::{DeclTree, JavaTree, StmtTree};

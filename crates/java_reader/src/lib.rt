@@ -13,7 +13,6 @@ mod places;
 
 mod source;
 mod statements;
-mod stub;
 #[cfg(test)]
 mod tests;
 mod types;

@@ -1,84 +1,20 @@
 ghost use Rattle.std.specs.Prelude.{◌≡◌, ◌<◌, false, None, option_map, IfOk, length};
-ghost use Rattle.java_tree.specs.Trees.{call as call_tree, call_on as call_on_tree, step as step_tree};
-ghost use Rattle.java_tree.specs.Expressions.{place};
-ghost use Rattle.java_tree.specs.Seen.{java_tree, java_trees, stmt_tree};
+ghost use Rattle.java_tree.specs.Trees.{step as step_tree};
+ghost use Rattle.java_tree.specs.Seen.{java_tree, stmt_tree};
 ghost use Rattle.reading_core.specs.Gives.{Gives};
 ghost use Rattle.java_reading.specs.Readers.{give};
 ghost use Rattle.java_reading.specs.Tokens.{fixed as fixed_lem};
 ghost use Rattle.java_reading.specs.declared.marks.Fixed.TheVariants.{Semicolon as FixedSemicolon};
 ghost use Rattle.java_reading.specs.StatementReading.{assigned_in, further_in, named_in, reached_in, step_in};
 ghost use Rattle.text_reading.specs.Readers.{arguments_at, expression_at};
-ghost use Rattle.java_reader.specs.Targets.{called_on, plain_of};
+ghost use Rattle.code_reader.specs.Targets.{called_on, plain_of};
 
-use crate::stub::{arguments, expression};
+use code_reader::{arguments, called, expression, plain};
 use java_lex::Token;
 use java_reading::{Fixed, Reached, Turn, fixed, lower, name, next_is, turn_at};
-use java_tree::{Ident, JavaNode, JavaTree, StmtTree};
-use no_memory::NoMemory;
+use java_tree::{Ident, JavaTree, StmtTree};
 use reading_core::{Stop, first, terminal_at};
 use std::alloc::Global;
-
-/// A name behind a `.`, or alone.
-fn plain(alloc: Global, target: Option<JavaTree>, name: Ident) -> Result<JavaTree, NoMemory>
-    ensures { IfOk result (λ t. java_tree t ≡ plain_of (option_map java_tree target) name) }
-{
-    match target {
-        None => Ok(JavaTree {
-            at: name.at,
-            node: JavaNode::Named(name),
-        }),
-        Some(target) => {
-            let at = target.at;
-            let target = Box::new(alloc, target)?;
-            Ok(JavaTree {
-                at,
-                node: JavaNode::Read(target, name),
-            })
-        }
-    }
-}
-
-/// A call.
-fn call(name: Ident, arguments: Vec<JavaTree>) -> JavaTree
-    ensures { java_tree result ≡ call_tree name.at name (java_trees arguments.items) }
-{
-    JavaTree {
-        at: name.at,
-        node: JavaNode::Call(name, arguments),
-    }
-}
-
-/// A call behind a `.`.
-fn call_on(
-    alloc: Global,
-    target: JavaTree,
-    name: Ident,
-    arguments: Vec<JavaTree>,
-) -> Result<JavaTree, NoMemory>
-    ensures { IfOk result (λ t. java_tree t ≡ call_on_tree (place (java_tree target)) (java_tree target) name (java_trees arguments.items)) }
-{
-    let at = target.at;
-    let target = Box::new(alloc, target)?;
-    Ok(JavaTree {
-        at,
-        node: JavaNode::CallOn(target, name, arguments),
-    })
-}
-
-/// A name with arguments.
-fn called(
-    alloc: Global,
-    target: Option<JavaTree>,
-    name: Ident,
-    arguments: Vec<JavaTree>,
-) -> Result<JavaTree, NoMemory>
-    ensures { IfOk result (λ t. java_tree t ≡ called_on (option_map java_tree target) name (java_trees arguments.items)) }
-{
-    match target {
-        None => Ok(call(name, arguments)),
-        Some(target) => call_on(alloc, target, name, arguments),
-    }
-}
 
 /// A value and `;`, behind the `=` of an assignment to this.
 fn assigned(

@@ -10,7 +10,7 @@ ghost use Rattle.java_reader.specs.Code.{headed_at};
 
 use crate::declarations::{declared, local};
 use crate::places::{named, reached};
-use crate::stub::expression;
+use code_reader::expression;
 use java_lex::Token;
 use java_reading::{Fixed, Form, Reached, fixed, fixed_at, form_at, lower, next_is, next_is_name};
 use java_tree::{JavaNode, JavaTree, StmtTree, TypeTree};

@@ -86,3 +86,106 @@ fn level_64_is_opened_and_level_65_is_not(rt: HostRuntime) -> Result<(), Fail> {
     assert_eq!(rt; fault_of_body(alloc, b"if (a) ; ", b"else if (a) ; ", 63, b"")?, Some(SourceFault::Deep { at: 906 }));
     Ok(())
 }
+
+#[test]
+fn an_else_belongs_to_the_nearest_if(rt: HostRuntime) -> Result<(), Fail> {
+    let tree = read_unit(rt.alloc(), b"class A { void m() { if (a) if (b) x = 1; else x = 2; } }")?;
+    let class = tree.classes.as_slice().first().ok_or("no class")?;
+    let member = class.members.as_slice().first().ok_or("no member")?;
+    let Member::Method(method) = member else {
+        return Err("no method".into());
+    };
+    match method.body.as_slice() {
+        [StmtTree::If(_, under, None)] => {
+            assert!(rt; matches!(**under, StmtTree::If(_, _, Some(_))));
+        }
+        _ => assert!(rt; false),
+    }
+    Ok(())
+}
+
+#[test]
+fn a_tree_keeps_what_has_an_effect(rt: HostRuntime) -> Result<(), Fail> {
+    let text = b"package p.q; import java.util.*; import static a.B.c;\n\
+        public /*@ non_null_by_default @*/ final class A {\n\
+        ; private /*@ spec_public non_null nullable @*/ A x, y; ;\n\
+        //@ requires x == y; ensures \\result > 0;\n\
+        public static /*@ nullable @*/ int f(final int a, /*@ nullable @*/ A b) { int c = 1, d; this.x.y = null; f(c); return a; }\n\
+        /*@ protected invariant x != null; @*/ }\n\
+        class B { }";
+    let tree = read_unit(rt.alloc(), text)?;
+    let [first, second] = tree.classes.as_slice() else {
+        return Err("not two classes".into());
+    };
+    assert_eq!(rt; first.name.text.bytes(), b"A".as_slice());
+    assert!(rt; matches!(first.mods.as_slice(), [m] if m.word == ModWord::NonNullByDefault && m.at == 65));
+    assert_eq!(rt; second.members.len(), 0);
+    let [Member::Field(mods, _, x), Member::Field(_, _, y), Member::Method(f), Member::Invariant(at, _)] = first.members.as_slice() else {
+        return Err("not two fields, a method and an invariant".into());
+    };
+    assert_eq!(rt; x.text.bytes(), b"x".as_slice());
+    assert_eq!(rt; y.text.bytes(), b"y".as_slice());
+    assert!(rt; matches!(mods.as_slice(), [m, n] if m.word == ModWord::Nullable && n.word == ModWord::NonNull && n.at < m.at));
+    assert!(rt; matches!(f.mods.as_slice(), [m, n] if m.word == ModWord::Static && n.word == ModWord::Nullable));
+    assert!(rt; matches!(f.spec.as_slice(), [SpecTree::Requires(_, _), SpecTree::Ensures(_, _)]));
+    assert_eq!(rt; f.params.len(), 2);
+    match f.body.as_slice() {
+        [StmtTree::Local(_, _, declared), StmtTree::Set(place, _), StmtTree::Run(call), StmtTree::Return(_, Some(_))] => {
+            assert_eq!(rt; declared.len(), 2);
+            assert!(rt; matches!(place.node, JavaNode::Read(_, _)));
+            assert!(rt; matches!(call.node, JavaNode::Call(_, _)));
+        }
+        _ => assert!(rt; false),
+    }
+    assert!(rt; *at > 300);
+    Ok(())
+}
+
+/// A class with a method whose text is that of a list, in the profile's words.
+const LIST: &[u8] = b"class Node { int v; /*@ nullable @*/ Node next; }\n\
+class List {\n\
+  /*@ nullable @*/ Node head;\n\
+  /*@ invariant (\\forall Node n; \\reach(head, Node, next).has(n);\n\
+    @   !\\reach(n.next, Node, next).has(n)\n\
+    @   && (n.next != null ==> n.v <= n.next.v)); @*/\n\
+  /*@ ensures \\reach(head, Node, next).int_size()\n\
+    @   == \\old(\\reach(head, Node, next).int_size()) + 1; @*/\n\
+  void insert(int k) {\n\
+    Node x = new Node();\n\
+    x.v = k;\n\
+    if (head == null || k <= head.v) { x.next = head; head = x; return; }\n\
+    Node p = head;\n\
+    while (p.next != null && p.next.v < k) { p = p.next; }\n\
+    x.next = p.next;\n\
+    p.next = x;\n\
+  }\n\
+}\n";
+
+#[test]
+fn a_class_of_lists_is_read(rt: HostRuntime) -> Result<(), Fail> {
+    let tree: Tree = read_unit(rt.alloc(), LIST)?;
+    let [node, list] = tree.classes.as_slice() else {
+        return Err("not two classes".into());
+    };
+    assert_eq!(rt; node.members.len(), 2);
+    let [Member::Field(_, _, _), Member::Invariant(_, _), Member::Method(insert)] = list.members.as_slice() else {
+        return Err("not a field, an invariant and a method".into());
+    };
+    assert_eq!(rt; insert.spec.len(), 1);
+    assert_eq!(rt; insert.body.len(), 7);
+    Ok(())
+}
+
+#[test]
+fn long_texts_are_read(rt: HostRuntime) -> Result<(), Fail> {
+    let alloc = rt.alloc();
+    let text = repeated(alloc, b"", b"(", 262_144, b"")?;
+    assert_eq!(rt; fault(alloc, text.as_slice())?, Some(SourceFault::Syntax { at: 0 }));
+    let text = repeated(alloc, b"class A { int f() { return ", b"(", 262_117, b"")?;
+    assert_eq!(rt; fault(alloc, text.as_slice())?, Some(SourceFault::Deep { at: 91 }));
+    let text = repeated(alloc, b"class A {", b";", 10_000, b"}")?;
+    assert_eq!(rt; fault(alloc, text.as_slice())?, None);
+    let text = repeated(alloc, b"class A { void m() { ", b"f();", 65_530, b"} }")?;
+    assert_eq!(rt; fault(alloc, text.as_slice())?, None);
+    Ok(())
+}

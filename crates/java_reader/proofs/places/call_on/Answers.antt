@@ -1,5 +1,0 @@
-use Rattle.java_reader.proofs.CodeLemmas.{call_on_is}
-use Rattle.java_reader.proofs.places.call_on.Goals as goal
-
-pub returns : goal.returns
-returns c = call_on_is c.args.target c.in_ok-target.target c.args.name c.args.arguments c.in_ok-target.ensures.ok
