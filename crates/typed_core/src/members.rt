@@ -18,7 +18,7 @@ use std::alloc::Global;
 use taco_unit::{Clause, FieldDef, Kind, MethodDef, Name, ParamDef, Stmt};
 use typed_statements::{
     body, field_known, first_places, here_in, here_of, is_object_type, method_known,
-    modifier_fault, next, nullness_fault, params_fault, typed_fault,
+    modifier_fault, next, nullness_fault, params_fault, typed_fault, word_fault,
 };
 use typed_expressions::{
     Cause, Fault, FieldKnown, Form, Here, Many, MethodKnown, ParamKnown, ResultKnown, Sort, Typed,
@@ -316,7 +316,7 @@ fn field_fault(
     );
     earlier(
         typed_fault(&world.classes, mods, kind),
-        earlier(twice, earlier(fields, references)),
+        earlier(word_fault(name), earlier(twice, earlier(fields, references))),
     )
 }
 
@@ -359,7 +359,7 @@ fn method_fault(
     let params = params_fault(alloc, &world.classes, method.params.as_slice())?;
     Ok(earlier(
         result_fault(world, method.mods.as_slice(), &method.result),
-        earlier(twice, earlier(methods, params)),
+        earlier(word_fault(&method.name), earlier(twice, earlier(methods, params))),
     ))
 }
 
