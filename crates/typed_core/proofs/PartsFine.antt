@@ -108,7 +108,7 @@ with_invariant w before b n default counts at e ms (made.Invariant c) so_far h =
       };
       own = record {
         conditions = λ u whole.
-        all_both (λ (x : Clause). is_condition (around_invariant u n) x.expr) ms.invariants (c ∷ []) (so_far.own.conditions u whole) (both_of (is_condition (around_invariant u n) c.expr) true (h.condition u whole) refl);
+            all_both (λ (x : Clause). is_condition (around_invariant u n) x.expr) ms.invariants (c ∷ []) (so_far.own.conditions u whole) (both_of (is_condition (around_invariant u n) c.expr) true (h.condition u whole) refl);
         same = step ∙ ap (λ x. x + 1) so_far.own.same ∙ sym (length-append ms.invariants (c ∷ []));
         few = subst P (sym step) (below counts.invariants so_far.own.few h.fewer);
       };

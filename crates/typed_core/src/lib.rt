@@ -5,6 +5,8 @@ mod classes;
 mod fault;
 mod members;
 mod resolution;
+#[cfg(test)]
+mod tests;
 mod unit;
 
 pub use fault::NameFault;
