@@ -4,6 +4,8 @@
 mod classes;
 mod fault;
 mod members;
+#[cfg(test)]
+mod pieces;
 mod resolution;
 #[cfg(test)]
 mod tests;
