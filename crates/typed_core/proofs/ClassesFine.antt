@@ -13,20 +13,19 @@ use Rattle.taco_unit.specs.Kinds.{is_class_kind}
 use Rattle.taco_unit.specs.Well.{around_invariant, are_conditions}
 use Rattle.typed_expressions.specs.declared.fault.Fault.{Fault}
 use Rattle.typed_expressions.specs.declared.fault.Many.TheVariants as many
-use Rattle.typed_expressions.specs.declared.fault.Cause.TheVariants.{Twice, TooMany}
+use Rattle.typed_expressions.specs.declared.fault.Cause.TheVariants.{Unknown, Twice, TooMany}
 use Rattle.typed_expressions.specs.declared.world.World.{World}
 use Rattle.typed_expressions.specs.Faults.{check}
 use Rattle.typed_expressions.specs.Seen.{Seen, Stands, Faulty, over, over_two, beside}
 use Rattle.typed_expressions.specs.Lookups.{place_in}
 use Rattle.typed_statements.specs.Modifiers.{modifier_faults}
-use Rattle.typed_statements.specs.Heads.{next, class_names, is_default, with_parts, with_classes}
+use Rattle.typed_statements.specs.Heads.{word_faults, next, class_names, is_default, with_parts, with_classes}
 use Rattle.typed_statements.proofs.Stand.{OnStands, on_beside, weaker, nothing_left, nothing_right, passes}
-use Rattle.typed_statements.proofs.CallKinds.{left_of, right_of}
 use Rattle.typed_core.specs.declared.members.Counts.{Counts}
 use Rattle.typed_core.specs.declared.members.Members.{Members}
 use Rattle.typed_core.specs.declared.members.Built.{Built}
 use Rattle.typed_core.specs.declared.members.ClassPart.{ClassPart}
-use Rattle.typed_core.specs.Members.{is_first, is_part_named, is_named, are_named, no_members, counted_parts, seen_parts, class_faults, fresh_class, seen_class, with_class, seen_classes}
+use Rattle.typed_core.specs.Members.{is_first, no_members, counted_parts, seen_parts, class_faults, fresh_class, seen_class, with_class, seen_classes}
 use Rattle.typed_core.proofs.Each.{Each, each_push, is_here}
 use Rattle.typed_core.proofs.Growth.{After, after_trans, after_parts, after_classes, Even, even_parts}
 use Rattle.typed_core.proofs.Totals.{Whole, FieldFine, MethodFine, Totals, below_limit, next_is}
@@ -70,6 +69,7 @@ pub record AllFine (w : World) (all : Classes) (b : Built) : Type 0 where
 
 -- what the head of a class without a fault keeps
 record Quiet (w : World) (n : ℕ) (c : Class) : Type 0 where
+  named : is_word c.name.text ≡ true
   first : is_first (place_in w.classes 0 c.name.text) n ≡ true
   fewer : not (n == 16) ≡ true
 
@@ -78,8 +78,11 @@ quiet_class w n c quiet =
     let a : List Fault = modifier_faults c.mods in
     let b : List Fault = check (is_first (place_in w.classes 0 c.name.text) n) c.name.at Twice in
     let d : List Fault = check (not (n == 16)) c.name.at (TooMany many.Classes) in
-    let rest = nothing_right a (b ++ d) quiet in
+    let e : List Fault = word_faults c.name in
+    let named_rest = nothing_right a (e ++ (b ++ d)) quiet in
+    let rest = nothing_right e (b ++ d) named_rest in
     record {
+      named = passes (is_word c.name.text) c.name.at Unknown (nothing_left e (b ++ d) named_rest);
       first = passes (is_first (place_in w.classes 0 c.name.text) n) c.name.at Twice (nothing_left b d rest);
       fewer = passes (not (n == 16)) c.name.at (TooMany many.Classes) (nothing_right b d rest);
     }
@@ -114,17 +117,17 @@ record ClassStands (w behind : World) (b : Built) (n : ℕ) (counts : Counts) (c
   head : Quiet w n c
   parts : PartsFine w behind b n counts ms
 
-class_stands : (w before : World) (b : Built) (n : ℕ) (counts : Counts) (c : Class) → Even before → After (with_parts n (is_default c.mods) before c.members) w → n < length w.classes → is_named c ≡ true
+class_stands : (w before : World) (b : Built) (n : ℕ) (counts : Counts) (c : Class) → Even before → After (with_parts n (is_default c.mods) before c.members) w → n < length w.classes
     → Totals w before counts b.fields b.methods
     → OnStands (seen_class w n counts c) (ClassStands w (with_parts n (is_default c.mods) before c.members) b n (counted_parts (fresh_class counts) c.members) c)
-class_stands w before b n counts c even after within named t =
+class_stands w before b n counts c even after within t =
     let behind : World = with_parts n (is_default c.mods) before c.members in
     let members : Seen Members = seen_parts w n (is_default c.mods) (fresh_class counts) (Stands no_members) c.members in
     let counts' : Counts = counted_parts (fresh_class counts) c.members in
     on_beside (ClassStands w behind b n counts' c) (class_faults w n c) members
     (λ quiet.
     weaker (PartsFine w behind b n counts') (ClassStands w behind b n counts' c) members
-    (parts_fine w before b n (is_default c.mods) (fresh_class counts) c.members (Stands no_members) even after within (right_of (is_word c.name.text) _ named) (none_yet w before b n counts t))
+    (parts_fine w before b n (is_default c.mods) (fresh_class counts) c.members (Stands no_members) even after within (none_yet w before b n counts t))
     (λ ms parts. record { head = quiet_class w n c quiet; parts = parts }))
 
 at_seam : {A : Type 0} (xs : List A) (y : A) (ys : List A) → slice_get (xs ++ y ∷ ys) (length xs) ≡ Some y
@@ -134,10 +137,10 @@ at_seam (x ∷ xs) y ys = at_seam xs y ys
 within_all : (front : Classes) (c : Class) (cs : Classes) (n : ℕ) → n ≡ length front → n < length (front ++ c ∷ cs)
 within_all front c cs n is = let long : length (front ++ c ∷ cs) ≡ length front + length (c ∷ cs) = length-append front (c ∷ cs) in omega (arith, long, is)
 
-add_class : (w before : World) (all front : Classes) (c : Class) (cs : Classes) (n : ℕ) (counts : Counts) (b : Built) (ms : Members) → w.classes ≡ class_names all → all ≡ front ++ c ∷ cs → is_named c ≡ true → SoFar w before front n counts b
+add_class : (w before : World) (all front : Classes) (c : Class) (cs : Classes) (n : ℕ) (counts : Counts) (b : Built) (ms : Members) → w.classes ≡ class_names all → all ≡ front ++ c ∷ cs → SoFar w before front n counts b
     → ClassStands w (with_parts n (is_default c.mods) before c.members) b n (counted_parts (fresh_class counts) c.members) c ms
     → SoFar w (with_parts n (is_default c.mods) before c.members) (front ++ c ∷ []) (next n) (counted_parts (fresh_class counts) c.members) (with_class b c ms)
-add_class w before all front c cs n counts b ms names is named so_far new =
+add_class w before all front c cs n counts b ms names is so_far new =
     let few : n ≤ 16 = so_far.few in
     let step : next n ≡ n + 1 = next_is n (omega arith) in
     let P : ℕ → Type 0 = λ x. x ≤ 16 in
@@ -151,7 +154,7 @@ add_class w before all front c cs n counts b ms names is named so_far new =
     let fine : ClassFine w n c part =
     record {
       name = refl;
-      named = left_of (is_word c.name.text) _ named;
+      named = new.head.named;
       first = is_here w.classes 0 c.name.text n named_here new.head.first;
       invariants = new.parts.own.conditions;
       few = subst R new.parts.own.same new.parts.own.few;
@@ -183,23 +186,21 @@ whole_text w all front n counts b is so_far =
       few_references = subst References t.many_references t.few_references;
     }
 
-pub classes_fine : (w before : World) (all front : Classes) (cs : Classes) (n : ℕ) (counts : Counts) (s : Seen Built) → w.classes ≡ class_names all → all ≡ front ++ cs → w ≡ with_classes n before cs → Even before → are_named cs ≡ true
+pub classes_fine : (w before : World) (all front : Classes) (cs : Classes) (n : ℕ) (counts : Counts) (s : Seen Built) → w.classes ≡ class_names all → all ≡ front ++ cs → w ≡ with_classes n before cs → Even before
     → OnStands s (SoFar w before front n counts) → OnStands (seen_classes w n counts s cs) (AllFine w all)
-classes_fine w before all front [] n counts s names is made even named so_far =
+classes_fine w before all front [] n counts s names is made even so_far =
     let P : World → Type 0 = λ v. OnStands s (SoFar w v front n counts) in
     weaker (SoFar w w front n counts) (AllFine w all) s (subst P (sym made) so_far) (λ b h. whole_text w all front n counts b (is ∙ nothing_more front) h)
-classes_fine w before all front (c ∷ cs) n counts s names is made even named so_far =
+classes_fine w before all front (c ∷ cs) n counts s names is made even so_far =
     let behind : World = with_parts n (is_default c.mods) before c.members in
     let counts' : Counts = counted_parts (fresh_class counts) c.members in
-    let own : is_named c ≡ true = left_of (is_named c) _ named in
     let After_w : World → Type 0 = λ v. After behind v in
     let after : After behind w = subst After_w (sym made) (after_classes (next n) behind cs) in
     let long : length w.classes ≡ length all = ap length names ∙ length-map all (λ (x : Class). (0, x.name.text)) in
     classes_fine w behind all (front ++ c ∷ []) cs (next n) counts' (over_two s (seen_class w n counts c) (λ b ms. Stands (with_class b c ms))) names (is ∙ sym (append_assoc front (c ∷ []) cs)) made
     (even_parts n (is_default c.mods) before c.members even)
-    (right_of (is_named c) _ named)
     (on_then_with (SoFar w before front n counts) (λ b. ClassStands w behind b n counts' c) (SoFar w behind (front ++ c ∷ []) (next n) counts') s (seen_class w n counts c) (λ b ms. Stands (with_class b c ms)) so_far
     (λ b h.
     let P : ℕ → Type 0 = λ x. n < x in
-    class_stands w before b n counts c even after (subst P (ap length (sym is) ∙ sym long) (within_all front c cs n h.number)) own h.totals)
-    (λ b ms h new. add_class w before all front c cs n counts b ms names is own h new))
+    class_stands w before b n counts c even after (subst P (ap length (sym is) ∙ sym long) (within_all front c cs n h.number)) h.totals)
+    (λ b ms h new. add_class w before all front c cs n counts b ms names is h new))

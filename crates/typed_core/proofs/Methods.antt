@@ -20,7 +20,7 @@ use Rattle.taco_unit.specs.Kinds.{Around, is_kind_of, is_condition}
 use Rattle.taco_unit.specs.Well.{IsWellMethod, around_invariant, around_method, receiver_of, param_kinds}
 use Rattle.typed_expressions.specs.declared.fault.Fault.{Fault}
 use Rattle.typed_expressions.specs.declared.fault.Many.TheVariants as many
-use Rattle.typed_expressions.specs.declared.fault.Cause.TheVariants.{Twice, TooMany}
+use Rattle.typed_expressions.specs.declared.fault.Cause.TheVariants.{Unknown, Twice, TooMany}
 use Rattle.typed_expressions.specs.declared.sort.Sort.{Sort}
 use Rattle.typed_expressions.specs.declared.world.World.{World}
 use Rattle.typed_expressions.specs.declared.world.Here.{Here}
@@ -36,7 +36,7 @@ use Rattle.typed_expressions.specs.Calls.{byte}
 use Rattle.typed_expressions.specs.Expressions.{in_clause, seen}
 use Rattle.typed_statements.specs.Kinds.{kind_of, param_def, result_def}
 use Rattle.typed_statements.specs.Modifiers.{marks_of, is_nullable}
-use Rattle.typed_statements.specs.Heads.{Names, type_sort, is_object_type, typed_faults, params_faults, param_known, method_known, here_of, here_in}
+use Rattle.typed_statements.specs.Heads.{Names, type_sort, is_object_type, word_faults, params_faults, param_known, method_known, here_of, here_in}
 use Rattle.typed_statements.specs.Statements.{Ended, seen_body}
 use Rattle.typed_statements.proofs.Stand.{OnStands, on_over, on_over_two, on_beside, nothing_left, nothing_right, passes}
 use Rattle.typed_statements.proofs.Suits.{is_kind}
@@ -49,7 +49,7 @@ use Rattle.typed_core.specs.declared.members.Counts.{Counts}
 use Rattle.typed_core.specs.declared.members.Made.{Made}
 use Rattle.typed_core.specs.declared.members.Made.TheVariants as made
 use Rattle.typed_core.specs.Members.{is_first, clause_of, method_def, no_clauses, many_clauses, seen_clauses, result_faults, method_faults}
-use Rattle.typed_core.proofs.Parameters.{params_few, params_fixed, params_there, params_apart}
+use Rattle.typed_core.proofs.Parameters.{params_few, params_named, params_fixed, params_there, params_apart}
 use Rattle.typed_core.proofs.Clauses.{no_state, no_state_holds, condition_stands, FineSpec, clauses_fine}
 
 -- RESULTS
@@ -85,6 +85,7 @@ no_result (Some r) is = absurd (cc)
 -- what the head of a method without a fault keeps
 pub record QuietHead (w : World) (n : ℕ) (counts : Counts) (m : Method) : Type 0 where
   pub result : result_faults w m.mods m.result ≡ []
+  pub named : is_word m.name.text ≡ true
   pub fewer : not (counts.methods == 64) ≡ true
   pub params : params_faults w.classes [] m.params ≡ []
 
@@ -94,9 +95,11 @@ quiet_head w n counts m quiet =
     let b : List Fault = check (is_first (place_in w.method_names n m.name.text) counts.methods) m.name.at Twice in
     let c : List Fault = check (not (counts.methods == 64)) m.name.at (TooMany many.Methods) in
     let d : List Fault = params_faults w.classes [] m.params in
-    let bcd = nothing_right a (b ++ (c ++ d)) quiet in
+    let e : List Fault = word_faults m.name in
+    let ebcd = nothing_right a (e ++ (b ++ (c ++ d))) quiet in
+    let bcd = nothing_right e (b ++ (c ++ d)) ebcd in
     let cd = nothing_right b (c ++ d) bcd in
-    record { result = nothing_left a (b ++ (c ++ d)) quiet; fewer = passes (not (counts.methods == 64)) m.name.at (TooMany many.Methods) (nothing_left c d cd); params = nothing_right c d cd }
+    record { result = nothing_left a (e ++ (b ++ (c ++ d))) quiet; named = passes (is_word m.name.text) m.name.at Unknown (nothing_left e (b ++ (c ++ d)) ebcd); fewer = passes (not (counts.methods == 64)) m.name.at (TooMany many.Methods) (nothing_left c d cd); params = nothing_right c d cd }
 
 kinds_same : (ps : List ParamKnown) → map (λ (p : ParamDef). p.kind) (map param_def ps) ≡ map kind_of (map (λ (p : ParamKnown). p.sort) ps)
 kinds_same [] = refl
@@ -136,7 +139,7 @@ MadeMethod P (made.Invariant c) = ⊥
 byte_less : (n k : ℕ) → n < k → byte n < k
 byte_less n k less = omega arith
 
-pub method_well : (w : World) (u : Parts) (n : ℕ) (default : Bool) (m : Method) (counts : Counts) → Knows w u → n < length u.classes → is_word m.name.text ≡ true → list_all (λ (p : Param). is_word p.name.text) m.params ≡ true
+pub method_well : (w : World) (u : Parts) (n : ℕ) (default : Bool) (m : Method) (counts : Counts) → Knows w u → n < length u.classes
     → QuietHead w n counts m
     → OnStands
     (over_two
@@ -144,7 +147,7 @@ pub method_well : (w : World) (u : Parts) (n : ℕ) (default : Bool) (m : Method
     (seen_body w (here_of (method_known w.classes n default m)) m.body).is
     (λ spec ss. Stands (made.Method (method_def (method_known w.classes n default m) spec (seen_body w (here_of (method_known w.classes n default m)) m.body).state.sorts ss))))
     (MadeMethod (IsWellMethod u))
-method_well w u n default m counts knows within word words quiet =
+method_well w u n default m counts knows within quiet =
     let known : MethodKnown = method_known w.classes n default m in
     let h : Here = here_of known in
     let kinds : List Kind = map (λ (p : ParamDef). p.kind) (map param_def known.params) in
@@ -162,9 +165,9 @@ method_well w u n default m counts knows within word words quiet =
     (record { fit = refl; holds = no_state_holds code }))
     (λ spec ss fine fits.
     record {
-      named = word;
+      named = quiet.named;
       in_class = byte_less n (length u.classes) within;
-      params_named = words_same w.classes default m.params ∙ words;
+      params_named = words_same w.classes default m.params ∙ params_named w.classes m.params quiet.params;
       params_apart = params_apart w.classes default m.params quiet.params;
       kinds_there = all_both (is_kind_of u) kinds (map kind_of body.state.sorts) (params_there w u default m.params knows quiet.params) (list_all-map (is_kind_of u) kind_of body.state.sorts ∙ fits.holds.there);
       result_there = result_there w u default m.mods m.result knows quiet.result;

@@ -7,16 +7,17 @@ use Rattle.std.proofs.lemmas.List.{length-append}
 use Rattle.java_tree.specs.Trees.{Param}
 use Rattle.taco_unit.specs.declared.unit.ParamDef.{ParamDef}
 use Rattle.taco_unit.specs.Parts.{Parts}
+use Rattle.taco_unit.specs.Words.{is_word}
 use Rattle.taco_unit.specs.Kinds.{is_kind_of}
 use Rattle.typed_expressions.specs.declared.fault.Fault.{Fault}
-use Rattle.typed_expressions.specs.declared.fault.Cause.TheVariants.{Twice, TooMany}
+use Rattle.typed_expressions.specs.declared.fault.Cause.TheVariants.{Unknown, Twice, TooMany}
 use Rattle.typed_expressions.specs.declared.fault.Many.TheVariants as many
 use Rattle.typed_expressions.specs.declared.world.World.{World}
 use Rattle.typed_expressions.specs.declared.world.ParamKnown.{ParamKnown}
 use Rattle.typed_expressions.specs.Faults.{check}
 use Rattle.typed_expressions.specs.Lookups.{is_key, place_in}
 use Rattle.typed_statements.specs.Kinds.{kind_of, param_def}
-use Rattle.typed_statements.specs.Heads.{Names, typed_faults, param_faults, params_faults, param_known, type_sort}
+use Rattle.typed_statements.specs.Heads.{Names, typed_faults, word_faults, param_faults, params_faults, param_known, type_sort}
 use Rattle.typed_statements.proofs.Stand.{nothing_left, nothing_right, passes}
 use Rattle.typed_statements.proofs.Suits.{is_kind}
 use Rattle.typed_statements.proofs.Agrees.{Knows, kept, last_one, mapped}
@@ -27,6 +28,7 @@ use Rattle.typed_core.proofs.Each.{apart_from, not_nowhere, is_own_key}
 -- what a parameter without a fault keeps
 record Quiet (names before : Names) (p : Param) : Type 0 where
   typed : typed_faults names p.mods p.kind ≡ []
+  named : is_word p.name.text ≡ true
   fresh : is_none (place_in before 0 p.name.text) ≡ true
   few : not (length before == 8) ≡ true
 
@@ -35,9 +37,12 @@ quiet_one names before p quiet =
     let a : List Fault = typed_faults names p.mods p.kind in
     let b : List Fault = check (is_none (place_in before 0 p.name.text)) p.name.at Twice in
     let c : List Fault = check (not (length before == 8)) p.name.at (TooMany many.Params) in
-    let rest = nothing_right a (b ++ c) quiet in
+    let e : List Fault = word_faults p.name in
+    let named_rest = nothing_right a (e ++ (b ++ c)) quiet in
+    let rest = nothing_right e (b ++ c) named_rest in
     record {
-      typed = nothing_left a (b ++ c) quiet;
+      typed = nothing_left a (e ++ (b ++ c)) quiet;
+      named = passes (is_word p.name.text) p.name.at Unknown (nothing_left e (b ++ c) named_rest);
       fresh = passes (is_none (place_in before 0 p.name.text)) p.name.at Twice (nothing_left b c rest);
       few = passes (not (length before == 8)) p.name.at (TooMany many.Params) (nothing_right b c rest);
     }
@@ -90,6 +95,13 @@ there_from w u before default (p ∷ ps) knows quiet =
 pub params_there : (w : World) (u : Parts) (default : Bool) (ps : List Param) → Knows w u → params_faults w.classes [] ps ≡ []
     → list_all (is_kind_of u) (map (λ (p : ParamDef). p.kind) (map param_def (map (param_known w.classes default) ps))) ≡ true
 params_there w u default ps knows quiet = there_from w u [] default ps knows quiet
+
+named_from : (names before : Names) (ps : List Param) → params_faults names before ps ≡ [] → list_all (λ (p : Param). is_word p.name.text) ps ≡ true
+named_from names before [] quiet = refl
+named_from names before (p ∷ ps) quiet = both_of (is_word p.name.text) _ (first_quiet names before p ps quiet).named (named_from names (and_name before p) ps (rest_quiet names before p ps quiet))
+
+pub params_named : (names : Names) (ps : List Param) → params_faults names [] ps ≡ [] → list_all (λ (p : Param). is_word p.name.text) ps ≡ true
+params_named names ps quiet = named_from names [] ps quiet
 
 -- NAMES OF THEIR OWN
 

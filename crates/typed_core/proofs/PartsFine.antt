@@ -27,7 +27,7 @@ use Rattle.typed_statements.specs.Kinds.{param_def, result_def}
 use Rattle.typed_statements.specs.Heads.{next, field_known, method_known, here_of, here_in, with_part, with_parts}
 use Rattle.typed_statements.specs.Statements.{seen_body}
 use Rattle.typed_statements.proofs.Stand.{OnStands, on_over, on_over_two_late, on_unless, on_beside, on_then, weaker, passes}
-use Rattle.typed_statements.proofs.CallKinds.{both_of, left_of, right_of}
+use Rattle.typed_statements.proofs.CallKinds.{both_of}
 use Rattle.typed_statements.proofs.Fitting.{Before, before_trans, all_both}
 use Rattle.typed_core.specs.declared.members.Counts.{Counts}
 use Rattle.typed_core.specs.declared.members.Made.{Made}
@@ -35,7 +35,7 @@ use Rattle.typed_core.specs.declared.members.Made.TheVariants as made
 use Rattle.typed_core.specs.declared.members.Members.{Members}
 use Rattle.typed_core.specs.declared.members.Built.{Built}
 use Rattle.typed_core.specs.declared.members.Spec.{Spec}
-use Rattle.typed_core.specs.Members.{is_part_named, clause_of, many_clauses, field_def, field_faults, method_def, method_faults, no_clauses, seen_clauses, seen_method, seen_part, seen_parts, counted, counted_parts, reference_count, with_made}
+use Rattle.typed_core.specs.Members.{clause_of, many_clauses, field_def, field_faults, method_def, method_faults, no_clauses, seen_clauses, seen_method, seen_part, seen_parts, counted, counted_parts, reference_count, with_made}
 use Rattle.typed_core.proofs.Growth.{After, after_trans, after_part, after_parts, Even, even_part}
 use Rattle.typed_core.proofs.Clauses.{below, next_small}
 use Rattle.typed_core.proofs.Methods.{QuietHead, quiet_head, MadeMethod, method_well, known_params, known_result, invariant_stands}
@@ -108,7 +108,7 @@ with_invariant w before b n default counts at e ms (made.Invariant c) so_far h =
       };
       own = record {
         conditions = λ u whole.
-        all_both (λ (x : Clause). is_condition (around_invariant u n) x.expr) ms.invariants (c ∷ []) (so_far.own.conditions u whole) (both_of (is_condition (around_invariant u n) c.expr) true (h.condition u whole) refl);
+            all_both (λ (x : Clause). is_condition (around_invariant u n) x.expr) ms.invariants (c ∷ []) (so_far.own.conditions u whole) (both_of (is_condition (around_invariant u n) c.expr) true (h.condition u whole) refl);
         same = step ∙ ap (λ x. x + 1) so_far.own.same ∙ sym (length-append ms.invariants (c ∷ []));
         few = subst P (sym step) (below counts.invariants so_far.own.few h.fewer);
       };
@@ -131,13 +131,13 @@ field_made w n default counts mods kind i =
     on_unless (MadeField (IsField w n default counts mods kind i)) (field_faults w n counts mods kind i) (made.Field (field_def (field_known w.classes n default mods kind i))) (λ quiet. record { is = refl; quiet = quiet })
 
 with_field_made : (w before : World) (b : Built) (n : ℕ) (default : Bool) (counts : Counts) (mods : List Modifier) (kind : TypeTree) (i : Ident) (ms : Members) (m : Made) → Even before → w.classes ≡ before.classes
-    → Before (before.field_names ++ (n, i.text) ∷ []) w.field_names → n < length w.classes → is_word i.text ≡ true → PartsFine w before b n counts ms → MadeField (IsField w n default counts mods kind i) m
+    → Before (before.field_names ++ (n, i.text) ∷ []) w.field_names → n < length w.classes → PartsFine w before b n counts ms → MadeField (IsField w n default counts mods kind i) m
     → PartsFine w (with_part n default before (field mods kind i)) b n (counted counts (field mods kind i)) (with_made ms m)
-with_field_made w before b n default counts mods kind i ms (made.Invariant c) even same behind within word so_far h = absurd h
-with_field_made w before b n default counts mods kind i ms (made.Method d) even same behind within word so_far h = absurd h
-with_field_made w before b n default counts mods kind i ms (made.Field d) even same behind within word so_far h =
+with_field_made w before b n default counts mods kind i ms (made.Invariant c) even same behind within so_far h = absurd h
+with_field_made w before b n default counts mods kind i ms (made.Method d) even same behind within so_far h = absurd h
+with_field_made w before b n default counts mods kind i ms (made.Field d) even same behind within so_far h =
     let known_def : FieldDef = field_def (field_known w.classes n default mods kind i) in
-    let all = totals_field w before n default counts mods kind i (b.fields ++ ms.fields) (b.methods ++ ms.methods) even same behind within word h.quiet so_far.totals in
+    let all = totals_field w before n default counts mods kind i (b.fields ++ ms.fields) (b.methods ++ ms.methods) even same behind within h.quiet so_far.totals in
     let place : (b.fields ++ ms.fields) ++ known_def ∷ [] ≡ b.fields ++ (ms.fields ++ d ∷ []) = append_assoc b.fields ms.fields (known_def ∷ []) ∙ ap (λ x. b.fields ++ (ms.fields ++ x ∷ [])) (sym h.is) in
     let P : List FieldDef → Type 0 = λ l. Totals w (with_part n default before (field mods kind i)) (counted counts (field mods kind i)) l (b.methods ++ ms.methods) in
     record { totals = subst P place all; own = record { conditions = so_far.own.conditions; same = so_far.own.same; few = so_far.own.few } }
@@ -162,9 +162,9 @@ well_made w n default counts m (made.Invariant c) quiet h = h.1
 well_made w n default counts m (made.Field d) quiet h = h.1
 well_made w n default counts m (made.Method d) quiet h = record { head = h.1; quiet = quiet; well = h.0 }
 
-method_made : (w : World) (n : ℕ) (default : Bool) (counts : Counts) (m : Method) → n < length w.classes → is_word m.name.text ≡ true → list_all (λ (p : Param). is_word p.name.text) m.params ≡ true
+method_made : (w : World) (n : ℕ) (default : Bool) (counts : Counts) (m : Method) → n < length w.classes
     → OnStands (seen_part w n default counts (method m)) (MadeMethod (IsMethod w n default counts m))
-method_made w n default counts m within word words =
+method_made w n default counts m within =
     let known : MethodKnown = method_known w.classes n default m in
     let h : Here = here_of known in
     let whole_method : Seen Made =
@@ -175,7 +175,7 @@ method_made w n default counts m within word words =
     let head = quiet_head w n counts m quiet in
     weaker (λ (x : Made). ((u : Parts) → Whole w u → MadeMethod (IsWellMethod u) x) × MadeMethod (Headed known) x) (MadeMethod (IsMethod w n default counts m)) whole_method
     (both (λ (x : Made). (u : Parts) → Whole w u → MadeMethod (IsWellMethod u) x) (MadeMethod (Headed known)) whole_method
-    (for_all w (λ u. MadeMethod (IsWellMethod u)) whole_method (λ u whole. method_well w u n default m counts whole.knows (within_unit w u n whole within) word words head))
+    (for_all w (λ u. MadeMethod (IsWellMethod u)) whole_method (λ u whole. method_well w u n default m counts whole.knows (within_unit w u n whole within) head))
     (on_over_two_late (MadeMethod (Headed known)) (seen_clauses w h 0 0 (Stands no_clauses) m.spec) (seen_body w h m.body).is _ (λ spec ss a b. record { class = refl; is_static = refl; params = refl; result = refl })))
     (λ x h_x. well_made w n default counts m x head h_x))
 
@@ -202,28 +202,27 @@ with_method_made w before b n default counts m ms (made.Method d) same so_far h 
 
 -- EACH MEMBER
 
-part_fine : (w before : World) (b : Built) (n : ℕ) (default : Bool) (counts : Counts) (p : Part) (s : Seen Members) → Even before → After (with_part n default before p) w → n < length w.classes → is_part_named p ≡ true
+part_fine : (w before : World) (b : Built) (n : ℕ) (default : Bool) (counts : Counts) (p : Part) (s : Seen Members) → Even before → After (with_part n default before p) w → n < length w.classes
     → OnStands s (PartsFine w before b n counts)
     → OnStands (over_two s (seen_part w n default counts p) (λ ms m. Stands (with_made ms m))) (PartsFine w (with_part n default before p) b n (counted counts p))
-part_fine w before b n default counts (invariant at e) s even after within named so_far =
+part_fine w before b n default counts (invariant at e) s even after within so_far =
     on_then (PartsFine w before b n counts) (MadeInvariant (IsInvariant w n counts.invariants)) (PartsFine w before b n (counted counts (invariant at e))) s (seen_part w n default counts (invariant at e))
     (λ ms m. Stands (with_made ms m)) so_far (λ ms h. invariant_made w n default counts at e within) (λ ms m h h_m. with_invariant w before b n default counts at e ms m h h_m)
-part_fine w before b n default counts (field mods kind i) s even after within named so_far =
+part_fine w before b n default counts (field mods kind i) s even after within so_far =
     on_then (PartsFine w before b n counts) (MadeField (IsField w n default counts mods kind i)) (PartsFine w (with_part n default before (field mods kind i)) b n (counted counts (field mods kind i))) s
     (seen_part w n default counts (field mods kind i)) (λ ms m. Stands (with_made ms m)) so_far (λ ms h. field_made w n default counts mods kind i)
-    (λ ms m h h_m. with_field_made w before b n default counts mods kind i ms m even after.classes after.field_names within named h h_m)
-part_fine w before b n default counts (method m) s even after within named so_far =
+    (λ ms m h h_m. with_field_made w before b n default counts mods kind i ms m even after.classes after.field_names within h h_m)
+part_fine w before b n default counts (method m) s even after within so_far =
     on_then (PartsFine w before b n counts) (MadeMethod (IsMethod w n default counts m)) (PartsFine w (with_part n default before (method m)) b n (counted counts (method m))) s
     (seen_part w n default counts (method m)) (λ ms x. Stands (with_made ms x)) so_far
-    (λ ms h. method_made w n default counts m within (left_of (is_word m.name.text) _ named) (right_of (is_word m.name.text) _ named))
+    (λ ms h. method_made w n default counts m within)
     (λ ms x h h_x. with_method_made w before b n default counts m ms x after.classes h h_x)
 
 pub parts_fine : (w before : World) (b : Built) (n : ℕ) (default : Bool) (counts : Counts) (ps : List Part) (s : Seen Members) → Even before → After (with_parts n default before ps) w → n < length w.classes
-    → list_all is_part_named ps ≡ true → OnStands s (PartsFine w before b n counts)
+    → OnStands s (PartsFine w before b n counts)
     → OnStands (seen_parts w n default counts s ps) (PartsFine w (with_parts n default before ps) b n (counted_parts counts ps))
-parts_fine w before b n default counts [] s even after within named so_far = so_far
-parts_fine w before b n default counts (p ∷ ps) s even after within named so_far =
+parts_fine w before b n default counts [] s even after within so_far = so_far
+parts_fine w before b n default counts (p ∷ ps) s even after within so_far =
     let more : World = with_part n default before p in
     parts_fine w more b n default (counted counts p) ps (over_two s (seen_part w n default counts p) (λ ms m. Stands (with_made ms m))) (even_part n default before p even) after within
-    (right_of (is_part_named p) _ named)
-    (part_fine w before b n default counts p s even (after_trans more (with_parts n default more ps) w (after_parts n default more ps) after) within (left_of (is_part_named p) _ named) so_far)
+    (part_fine w before b n default counts p s even (after_trans more (with_parts n default more ps) w (after_parts n default more ps) after) within so_far)

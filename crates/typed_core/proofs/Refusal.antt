@@ -14,7 +14,7 @@ use Rattle.typed_expressions.specs.Faults.{key, sooner, least, soonest}
 use Rattle.typed_expressions.specs.Seen.{Seen, Stands, Faulty, faults, over, told}
 use Rattle.typed_statements.proofs.Stand.{OnStands, stands}
 use Rattle.typed_core.specs.declared.members.Built.{Built}
-use Rattle.typed_core.specs.Members.{are_named, unit_of, seen_text, resolved}
+use Rattle.typed_core.specs.Members.{unit_of, seen_text, resolved}
 use Rattle.typed_core.specs.Resolved.{by_cause, name_fault, IsReported, Reports, Refuses}
 use Rattle.typed_core.proofs.WellUnit.{text_well}
 
@@ -78,5 +78,5 @@ pub resolved_is : (cs : Classes) (b : Built) → told (seen_text cs) ≡ Ok b �
 resolved_is cs b is = ap (λ s. over s (λ x. Stands (unit_of x))) (stands_by (seen_text cs) b is) ∙ over_stands b
 
 -- and this is well
-pub well_built : (cs : Classes) (b : Built) → are_named cs ≡ true → told (seen_text cs) ≡ Ok b → IsWell (unit_of b)
-well_built cs b named is = stands (λ x. IsWell (unit_of x)) (seen_text cs) b (stands_by (seen_text cs) b is) (text_well cs named)
+pub well_built : (cs : Classes) (b : Built) → told (seen_text cs) ≡ Ok b → IsWell (unit_of b)
+well_built cs b is = stands (λ x. IsWell (unit_of x)) (seen_text cs) b (stands_by (seen_text cs) b is) (text_well cs)

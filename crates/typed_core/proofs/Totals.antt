@@ -18,7 +18,7 @@ use Rattle.taco_unit.specs.Kinds.{is_kind_of, is_class_kind, is_condition}
 use Rattle.taco_unit.specs.Well.{IsWellMethod, around_invariant, are_conditions}
 use Rattle.typed_expressions.specs.declared.fault.Fault.{Fault}
 use Rattle.typed_expressions.specs.declared.fault.Many.TheVariants as many
-use Rattle.typed_expressions.specs.declared.fault.Cause.TheVariants.{Twice, TooMany}
+use Rattle.typed_expressions.specs.declared.fault.Cause.TheVariants.{Unknown, Twice, TooMany}
 use Rattle.typed_expressions.specs.declared.world.World.{World}
 use Rattle.typed_expressions.specs.declared.world.FieldKnown.{FieldKnown}
 use Rattle.typed_expressions.specs.declared.world.ParamKnown.{ParamKnown}
@@ -30,7 +30,7 @@ use Rattle.typed_expressions.specs.Lookups.{place_in}
 use Rattle.typed_expressions.specs.Calls.{byte}
 use Rattle.typed_expressions.specs.Clauses.{class_sort}
 use Rattle.typed_statements.specs.Kinds.{kind_of, param_def, result_def}
-use Rattle.typed_statements.specs.Heads.{Names, next, type_sort, is_object_type, typed_faults, field_known, method_known, here_of, with_field, with_method}
+use Rattle.typed_statements.specs.Heads.{Names, next, type_sort, is_object_type, typed_faults, word_faults, field_known, method_known, here_of, with_field, with_method}
 use Rattle.typed_statements.specs.Statements.{seen_body}
 use Rattle.typed_statements.proofs.Stand.{OnStands, nothing_left, nothing_right, passes}
 use Rattle.typed_statements.proofs.Suits.{is_kind}
@@ -119,6 +119,7 @@ few_more false n few is = omega arith
 -- what a field without a fault keeps
 record Quiet (w : World) (n : ℕ) (counts : Counts) (mods : List Modifier) (kind : TypeTree) (i : Ident) : Type 0 where
   typed : typed_faults w.classes mods kind ≡ []
+  named : is_word i.text ≡ true
   first : is_first (place_in w.field_names n i.text) counts.fields ≡ true
   fewer : not (counts.fields == 64) ≡ true
   fewer_references : not (is_object_type kind && counts.references == 32) ≡ true
@@ -129,10 +130,13 @@ quiet_field w n counts mods kind i quiet =
     let b : List Fault = check (is_first (place_in w.field_names n i.text) counts.fields) i.at Twice in
     let c : List Fault = check (not (counts.fields == 64)) i.at (TooMany many.Fields) in
     let d : List Fault = check (not (is_object_type kind && counts.references == 32)) i.at (TooMany many.RefFields) in
-    let bcd = nothing_right a (b ++ (c ++ d)) quiet in
+    let e : List Fault = word_faults i in
+    let ebcd = nothing_right a (e ++ (b ++ (c ++ d))) quiet in
+    let bcd = nothing_right e (b ++ (c ++ d)) ebcd in
     let cd = nothing_right b (c ++ d) bcd in
     record {
-      typed = nothing_left a (b ++ (c ++ d)) quiet;
+      typed = nothing_left a (e ++ (b ++ (c ++ d))) quiet;
+      named = passes (is_word i.text) i.at Unknown (nothing_left e (b ++ (c ++ d)) ebcd);
       first = passes (is_first (place_in w.field_names n i.text) counts.fields) i.at Twice (nothing_left b (c ++ d) bcd);
       fewer = passes (not (counts.fields == 64)) i.at (TooMany many.Fields) (nothing_left c d cd);
       fewer_references = passes (not (is_object_type kind && counts.references == 32)) i.at (TooMany many.RefFields) (nothing_right c d cd);
@@ -147,10 +151,10 @@ name_at w before key n even many behind =
     ∙ kept (before.field_names ++ key ∷ []) behind.more (length before.field_names) key (last_one before.field_names key)
 
 pub totals_field : (w before : World) (n : ℕ) (default : Bool) (counts : Counts) (mods : List Modifier) (kind : TypeTree) (i : Ident) (fs : List FieldDef) (ms : List MethodDef) → Even before → w.classes ≡ before.classes
-    → Before (before.field_names ++ (n, i.text) ∷ []) w.field_names → n < length w.classes → is_word i.text ≡ true → field_faults w n counts mods kind i ≡ [] → Totals w before counts fs ms
+    → Before (before.field_names ++ (n, i.text) ∷ []) w.field_names → n < length w.classes → field_faults w n counts mods kind i ≡ [] → Totals w before counts fs ms
     → Totals w (with_field before (field_known before.classes n default mods kind i)) (record counts { fields = next counts.fields; references = reference_count kind counts.references })
     (fs ++ field_def (field_known w.classes n default mods kind i) ∷ []) ms
-totals_field w before n default counts mods kind i fs ms even same behind within word quiet so_far =
+totals_field w before n default counts mods kind i fs ms even same behind within quiet so_far =
     let own = quiet_field w n counts mods kind i quiet in
     let d : FieldKnown = field_known w.classes n default mods kind i in
     let fixed = type_fixed w.classes kind (typed_quiet w.classes mods kind own.typed) in
@@ -159,7 +163,7 @@ totals_field w before n default counts mods kind i fs ms even same behind within
     let new : FieldFine w (length before.fields) d (field_def d) =
     record {
       is = refl;
-      named = word;
+      named = own.named;
       first = is_here w.field_names n i.text counts.fields (name_at w before (n, i.text) counts.fields even so_far.many_fields behind) own.first ∙ ap Some so_far.many_fields;
       in_class = within;
       fixed = fixed;

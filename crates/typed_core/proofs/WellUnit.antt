@@ -31,7 +31,7 @@ use Rattle.typed_statements.proofs.Agrees.{FieldAt, MethodAt, Knows, chained, ma
 use Rattle.typed_statements.proofs.CallKinds.{left_of, right_of}
 use Rattle.typed_core.specs.declared.members.Built.{Built}
 use Rattle.typed_core.specs.declared.members.ClassPart.{ClassPart}
-use Rattle.typed_core.specs.Members.{are_named, field_def, numbers_of, class_def, class_defs, unit_of, nothing_built, no_counts, seen_classes, seen_text}
+use Rattle.typed_core.specs.Members.{field_def, numbers_of, class_def, class_defs, unit_of, nothing_built, no_counts, seen_classes, seen_text}
 use Rattle.typed_core.proofs.Each.{Each, each_none, each_back, apart_from}
 use Rattle.typed_core.proofs.Growth.{After, after_classes, Even, even_classes}
 use Rattle.typed_core.proofs.Totals.{Whole, FieldFine, MethodFine}
@@ -251,15 +251,15 @@ well w all b names even fine =
       few_methods = subst Many fine.methods.same (omega arith);
     }
 
--- what stands of a text whose names are words
-pub text_well : (cs : Classes) → are_named cs ≡ true → OnStands (seen_text cs) (λ b. IsWell (unit_of b))
-text_well cs named =
+-- what stands of a text
+pub text_well : (cs : Classes) → OnStands (seen_text cs) (λ b. IsWell (unit_of b))
+text_well cs =
     let w : World = world_of cs in
     let bare : World = bare_world (class_names cs) in
     let names : w.classes ≡ class_names cs = (after_classes 0 bare cs).classes in
     let even_bare : Even bare = record { fields = refl; methods = refl } in
     weaker (AllFine w cs) (λ b. IsWell (unit_of b)) (seen_text cs)
-    (classes_fine w bare cs [] cs 0 no_counts (Stands nothing_built) names refl refl even_bare named
+    (classes_fine w bare cs [] cs 0 no_counts (Stands nothing_built) names refl refl even_bare
     (record {
       classes = each_none (ClassFine w);
       totals = record {

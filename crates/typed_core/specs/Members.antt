@@ -14,9 +14,7 @@ use Rattle.taco_unit.specs.declared.unit.ClassDef.{ClassDef}
 use Rattle.taco_unit.specs.declared.unit.FieldDef.{FieldDef}
 use Rattle.taco_unit.specs.declared.unit.ParamDef.{ParamDef}
 use Rattle.taco_unit.specs.declared.unit.MethodDef.{MethodDef}
-use Rattle.std.specs.List.{list_all}
 use Rattle.taco_unit.specs.Parts.{Parts}
-use Rattle.taco_unit.specs.Words.{is_word}
 use Rattle.typed_expressions.specs.declared.fault.Fault.{Fault}
 use Rattle.typed_expressions.specs.declared.fault.Many.TheVariants as many
 use Rattle.typed_expressions.specs.declared.fault.Cause.TheVariants.{Twice, TooMany}
@@ -45,7 +43,7 @@ use Rattle.typed_core.specs.declared.members.Built.{Built}
 use Rattle.typed_core.specs.declared.members.ClassPart.{ClassPart}
 use Rattle.typed_statements.specs.Kinds.{kind_of, param_def, result_def}
 use Rattle.typed_statements.specs.Modifiers.{marks_of, modifier_faults, nullness_faults}
-use Rattle.typed_statements.specs.Heads.{next, is_object_type, type_faults, typed_faults, field_known, method_known, is_default, world_of, here_of, here_in, params_faults}
+use Rattle.typed_statements.specs.Heads.{next, is_object_type, typed_faults, word_faults, field_known, method_known, is_default, world_of, here_of, here_in, params_faults}
 use Rattle.typed_statements.specs.Statements.{seen_body}
 
 -- a name that means this declaration, and no earlier one
@@ -103,9 +101,10 @@ no_clauses = record { needs = []; gives = [] }
 abbrev pub field_faults : World → ℕ → Counts → List Modifier → TypeTree → Ident → List Fault
 field_faults w n counts mods type i =
     typed_faults w.classes mods type
+    ++ (word_faults i
     ++ (check (is_first (place_in w.field_names n i.text) counts.fields) i.at Twice
     ++ (check (not (counts.fields == 64)) i.at (TooMany many.Fields)
-    ++ check (not (is_object_type type && counts.references == 32)) i.at (TooMany many.RefFields)))
+    ++ check (not (is_object_type type && counts.references == 32)) i.at (TooMany many.RefFields))))
 
 abbrev pub result_faults : World → List Modifier → Option TypeTree → List Fault
 result_faults w mods None = modifier_faults mods ++ nullness_faults false (marks_of mods)
@@ -114,9 +113,10 @@ result_faults w mods (Some type) = typed_faults w.classes mods type
 abbrev pub method_faults : World → ℕ → Counts → Method → List Fault
 method_faults w n counts m =
     result_faults w m.mods m.result
+    ++ (word_faults m.name
     ++ (check (is_first (place_in w.method_names n m.name.text) counts.methods) m.name.at Twice
     ++ (check (not (counts.methods == 64)) m.name.at (TooMany many.Methods)
-    ++ params_faults w.classes [] m.params))
+    ++ params_faults w.classes [] m.params)))
 
 abbrev pub seen_method : World → ℕ → Bool → Counts → Method → Seen Made
 seen_method w n default counts m =
@@ -168,7 +168,8 @@ seen_parts w n default counts so_far (p ∷ ps) =
 abbrev pub class_faults : World → ℕ → Class → List Fault
 class_faults w n c =
     modifier_faults c.mods
-    ++ (check (is_first (place_in w.classes 0 c.name.text) n) c.name.at Twice ++ check (not (n == 16)) c.name.at (TooMany many.Classes))
+    ++ (word_faults c.name
+    ++ (check (is_first (place_in w.classes 0 c.name.text) n) c.name.at Twice ++ check (not (n == 16)) c.name.at (TooMany many.Classes)))
 
 abbrev pub fresh_class : Counts → Counts
 fresh_class counts = record counts { invariants = 0 }
@@ -219,17 +220,3 @@ seen_text cs = seen_classes (world_of cs) 0 no_counts (Stands nothing_built) cs
 -- what a text stands for: its unit, or its faults
 abbrev pub resolved : Classes → Seen Parts
 resolved cs = over (seen_text cs) (λ b. Stands (unit_of b))
-
--- THE SHAPE OF A TREE
-
-abbrev pub is_part_named : Part → Bool
-is_part_named (invariant at e) = true
-is_part_named (field mods type i) = is_word i.text
-is_part_named (method m) = is_word m.name.text && list_all (λ p. is_word p.name.text) m.params
-
--- what is declared has words for names, as each text's tree has
-abbrev pub is_named : Class → Bool
-is_named c = is_word c.name.text && list_all is_part_named c.members
-
-abbrev pub are_named : Classes → Bool
-are_named cs = list_all is_named cs

@@ -11,7 +11,7 @@ use sqlite_items::Items;
 use std::alloc::Global;
 use taco_unit::Name;
 use typed_expressions::{Cause, Fault, Many, World, beside, earlier, pair, unless};
-use typed_statements::{is_default, modifier_fault, next, world};
+use typed_statements::{is_default, modifier_fault, next, word_fault, world};
 
 /// The fault of the head of a class.
 #[tactic(auto, using(crate::proofs::Lists::leaves))]
@@ -21,7 +21,10 @@ fn class_fault(world: &World<'_>, number: usize, class: &ClassTree) -> Option<Fa
     let place = world.classes.place(0, class.name.text.bytes());
     let twice = unless(is_first(place, number), class.name.at, Cause::Twice);
     let many = unless(number != 16, class.name.at, Cause::TooMany(Many::Classes));
-    earlier(modifier_fault(class.mods.as_slice()), earlier(twice, many))
+    earlier(
+        modifier_fault(class.mods.as_slice()),
+        earlier(word_fault(&class.name), earlier(twice, many)),
+    )
 }
 
 /// The members of a class, and what there is behind it.

@@ -4,7 +4,11 @@
 mod classes;
 mod fault;
 mod members;
+#[cfg(test)]
+mod pieces;
 mod resolution;
+#[cfg(test)]
+mod tests;
 mod unit;
 
 pub use fault::NameFault;

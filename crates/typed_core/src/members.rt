@@ -16,13 +16,13 @@ use no_memory::NoMemory;
 use sqlite_items::Items;
 use std::alloc::Global;
 use taco_unit::{Clause, FieldDef, Kind, MethodDef, Name, ParamDef, Stmt};
-use typed_statements::{
-    body, field_known, first_places, here_in, here_of, is_object_type, method_known,
-    modifier_fault, next, nullness_fault, params_fault, typed_fault,
-};
 use typed_expressions::{
     Cause, Fault, FieldKnown, Form, Here, Many, MethodKnown, ParamKnown, ResultKnown, Sort, Typed,
     World, beside, byte, earlier, jml, pair, unless, wants,
+};
+use typed_statements::{
+    body, field_known, first_places, here_in, here_of, is_object_type, method_known,
+    modifier_fault, next, nullness_fault, params_fault, typed_fault, word_fault,
 };
 
 /// What a member becomes.
@@ -316,7 +316,10 @@ fn field_fault(
     );
     earlier(
         typed_fault(&world.classes, mods, kind),
-        earlier(twice, earlier(fields, references)),
+        earlier(
+            word_fault(name),
+            earlier(twice, earlier(fields, references)),
+        ),
     )
 }
 
@@ -359,7 +362,10 @@ fn method_fault(
     let params = params_fault(alloc, &world.classes, method.params.as_slice())?;
     Ok(earlier(
         result_fault(world, method.mods.as_slice(), &method.result),
-        earlier(twice, earlier(methods, params)),
+        earlier(
+            word_fault(&method.name),
+            earlier(twice, earlier(methods, params)),
+        ),
     ))
 }
 
@@ -454,10 +460,7 @@ fn member(
         Member::Invariant(at, tree) => {
             let here = here_in(alloc, owner);
             let value = clause(alloc, world, &here, Form::Entry, tree)?;
-            Ok(as_invariant(beside(
-                many_fault(counts.invariants, *at),
-                value,
-            )))
+            Ok(as_invariant(beside(many_fault(counts.invariants, *at), value)))
         }
         Member::Field(mods, kind, name) => {
             field(

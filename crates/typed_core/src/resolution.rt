@@ -1,6 +1,5 @@
-ghost use Rattle.std.specs.Prelude.{IsTrue};
 ghost use Rattle.java_tree.specs.Seen.{classes_tree};
-ghost use Rattle.typed_core.specs.Members.{are_named, resolved};
+ghost use Rattle.typed_core.specs.Members.{resolved};
 ghost use Rattle.typed_core.specs.Resolved.{Resolves};
 
 use crate::classes::built;
@@ -11,12 +10,10 @@ use std::alloc::Global;
 use taco_unit::Unit;
 
 /// The unit of a tree, or of its faults of names and kinds the one with the least place, and at one place the first of
-/// `Unknown`, `Twice`, `Kinds` and `TooMany`. `NoMemory` where no memory was to be had. The classes, fields, methods and
-/// parameters that the tree declares have words for names, as those of each text have.
+/// `Unknown`, `Twice`, `Kinds` and `TooMany`. `NoMemory` where no memory was to be had.
 ///
 /// Each name is looked up once where it stands, among those that are declared.
 pub fn resolve(alloc: Global, tree: &Tree) -> Result<Unit, NameFault>
-    requires { IsTrue (are_named (classes_tree tree.now)) }
     ensures { Resolves (resolved (classes_tree tree.now)) result }
 {
     match built(alloc, tree)? {

@@ -5,6 +5,7 @@ use Rattle.java_tree.specs.declared.names.Modifier.{Modifier}
 use Rattle.java_tree.specs.declared.names.TypeTree.{TypeTree}
 use Rattle.java_tree.specs.declared.names.TypeTree.TheVariants as type
 use Rattle.java_tree.specs.Trees.{Param, Method, Part, invariant, field, method, Class, Classes}
+use Rattle.taco_unit.specs.Words.{is_word}
 use Rattle.typed_expressions.specs.declared.fault.Fault.{Fault}
 use Rattle.typed_expressions.specs.declared.fault.Many.TheVariants.{Params}
 use Rattle.typed_expressions.specs.declared.fault.Cause.TheVariants.{Unknown, Twice, TooMany}
@@ -126,11 +127,16 @@ here_of m =
 abbrev pub here_in : ℕ → Here
 here_in owner = record { class = owner; fixed = false; params = []; sorts = []; result = None }
 
+-- a name that is declared and is no word; no text has one
+abbrev pub word_faults : Ident → List Fault
+word_faults i = check (is_word i.text) i.at Unknown
+
 -- FAULTS OF PARAMETERS: a name that is there already, the ninth
 
 abbrev pub param_faults : Names → Names → Param → List Fault
 param_faults names before p =
-    typed_faults names p.mods p.kind ++ (check (is_none (place_in before 0 p.name.text)) p.name.at Twice ++ check (not (length before == 8)) p.name.at (TooMany Params))
+    typed_faults names p.mods p.kind
+    ++ (word_faults p.name ++ (check (is_none (place_in before 0 p.name.text)) p.name.at Twice ++ check (not (length before == 8)) p.name.at (TooMany Params)))
 
 abbrev pub params_faults : Names → Names → List Param → List Fault
 params_faults names before [] = []

@@ -6,6 +6,7 @@ mod heads;
 mod locals;
 mod modifiers;
 mod statements;
+mod words;
 
 pub use heads::{
     field_known, here_in, here_of, is_default, is_object_type, method_known, next, params_fault,
@@ -14,3 +15,4 @@ pub use heads::{
 pub use locals::Locals;
 pub use modifiers::{Marks, first_places, modifier_fault, nullness_fault};
 pub use statements::{Piece, body};
+pub use words::word_fault;

@@ -131,11 +131,7 @@ fn assigned(spot: Spot, value: Expr) -> Stmt
 
 /// An assignment.
 #[tactic(auto, using(crate::proofs::Lists::leaves))]
-fn assign(
-    alloc: Global,
-    place: Place,
-    value: Typed,
-) -> Result<Result<Piece, Fault>, NoMemory>
+fn assign(alloc: Global, place: Place, value: Typed) -> Result<Result<Piece, Fault>, NoMemory>
     ensures { IfOk result (λ r. r ≡ told (set_of place value)) }
 {
     match wants(place.sort, &value) {
@@ -194,10 +190,7 @@ fn counting(
 
 /// A call as a statement.
 #[tactic(auto, using(crate::proofs::Lists::leaves))]
-fn running(
-    alloc: Global,
-    call: Result<Called, Fault>,
-) -> Result<Result<Piece, Fault>, NoMemory>
+fn running(alloc: Global, call: Result<Called, Fault>) -> Result<Result<Piece, Fault>, NoMemory>
     ensures { IfOk result (λ r. r ≡ on call (λ c. told (run_of c))) }
 {
     match call {
@@ -419,10 +412,7 @@ fn local(
 
 /// Statements in braces.
 #[tactic(auto, using(crate::proofs::Lists::leaves))]
-fn block(
-    alloc: Global,
-    stmts: Result<Items<Stmt>, Fault>,
-) -> Result<Result<Piece, Fault>, NoMemory>
+fn block(alloc: Global, stmts: Result<Items<Stmt>, Fault>) -> Result<Result<Piece, Fault>, NoMemory>
     ensures { IfOk result (λ r. r ≡ on stmts (λ xs. told (Stands (Piece.One (s.Block xs))))) }
 {
     match stmts {
@@ -451,10 +441,7 @@ fn under(
 
 /// An `if` without `else`.
 #[tactic(auto, using(crate::proofs::Lists::leaves))]
-fn if_only(
-    alloc: Global,
-    first: Result<Branch, Fault>,
-) -> Result<Result<Piece, Fault>, NoMemory>
+fn if_only(alloc: Global, first: Result<Branch, Fault>) -> Result<Result<Piece, Fault>, NoMemory>
     ensures { IfOk result (λ r. r ≡ on first (λ b. told (Stands (Piece.One (s.If b.test b.under (s.Block [])))))) }
 {
     match first {
@@ -486,10 +473,7 @@ fn if_else(
 
 /// A `while`.
 #[tactic(auto, using(crate::proofs::Lists::leaves))]
-fn repeated(
-    alloc: Global,
-    first: Result<Branch, Fault>,
-) -> Result<Result<Piece, Fault>, NoMemory>
+fn repeated(alloc: Global, first: Result<Branch, Fault>) -> Result<Result<Piece, Fault>, NoMemory>
     ensures { IfOk result (λ r. r ≡ on first (λ b. told (Stands (Piece.One (s.While b.test b.under))))) }
 {
     match first {

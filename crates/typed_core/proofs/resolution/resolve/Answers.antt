@@ -8,7 +8,7 @@ use Rattle.typed_core.proofs.Refusal.{refused, resolved_is, well_built}
 use Rattle.typed_core.proofs.resolution.resolve.Goals as goal
 
 pub make_unit-requires : goal.make_unit-requires
-make_unit-requires c = well_built (classes_tree c.args.tree.now) c.in-Ok.built c.requires (sym c.in_ok-built.ensures ∙ c.in-Ok.is)
+make_unit-requires c = well_built (classes_tree c.args.tree.now) c.in-Ok.built (sym c.in_ok-built.ensures ∙ c.in-Ok.is)
 
 pub returns-in_ok-unit-in-Ok : goal.returns-in_ok-unit-in-Ok
 returns-in_ok-unit-in-Ok c = resolved_is (classes_tree c.args.tree.now) c.in-Ok.built (sym c.in_ok-built.ensures ∙ c.in-Ok.is) ∙ ap Stands (sym c.in_ok-unit-in-Ok.ensures)
