@@ -1,10 +1,12 @@
 -- What a check comes to, once its text is read.
 use Rattle.std.specs.Prelude.{◌≡◌, ◌≢◌, ℕ, List, Some, codes}
 use Rattle.taco_unit.specs.Parts.{Parts}
+use Rattle.heap_core.specs.declared.problem.Scope.{Scope}
 use Rattle.heap_core.specs.declared.start.Start.{Start}
 use Rattle.heap_core.specs.declared.judged.Part.{Part}
 use Rattle.heap_core.specs.Posed.{Posed}
 use Rattle.heap_core.specs.Judge.{Violates, Violable}
+use Rattle.boolean_trial.specs.Plain.{IsPlain}
 use Rattle.taco_run.specs.declared.answer.Status.{Status}
 use Rattle.taco_run.specs.declared.answer.Status.TheVariants as status
 use Rattle.taco_run.specs.declared.outcome.Outcome.{Outcome}
@@ -29,10 +31,18 @@ TellsBy p _ output = ⊥
 pub record Tells (p : Posed) (outcome : Outcome) : Type 0 where
   pub by : TellsBy p outcome.status outcome.output.items
 
+-- what a check of a method comes to: it is none of those that are checked so far, or it has a verdict
+abbrev pub MethodBy : Parts → ℕ → Scope → Status → List ℕ → Type 0
+MethodBy u method scope status.NotBuilt output = (output ≡ line (codes "notbuilt")) × (IsPlain u method → ⊥)
+MethodBy u method scope ends output = IsPlain u method × TellsBy (record { unit = u; method = method; scope = scope }) ends output
+
+pub record ChecksMethod (u : Parts) (method : ℕ) (scope : Scope) (outcome : Outcome) : Type 0 where
+  pub by : MethodBy u method scope outcome.status outcome.output.items
+
 -- what a check of a unit comes to
 abbrev pub ChecksBy : Parts → Job → Status → List ℕ → Type 0
 ChecksBy u job status.NoMethod output = (output ≡ line (codes "nomethod")) × ((class method : ℕ) → Names u job class method → ⊥)
-ChecksBy u job ends output = (class : ℕ) × (method : ℕ) × Names u job class method × TellsBy (record { unit = u; method = method; scope = job.scope }) ends output
+ChecksBy u job ends output = (class : ℕ) × (method : ℕ) × Names u job class method × MethodBy u method job.scope ends output
 
 pub record Checks (u : Parts) (job : Job) (outcome : Outcome) : Type 0 where
   pub by : ChecksBy u job outcome.status outcome.output.items

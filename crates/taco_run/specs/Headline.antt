@@ -14,7 +14,9 @@ use Rattle.heap_core.specs.Judge.{Violates, Violable}
 use Rattle.taco_io.specs.Counts.{Rose}
 use Rattle.taco_io.specs.Shelf.{Shelf, IsCalm, NameRose}
 use Rattle.taco_io.specs.Taken.{Taken}
-use Rattle.thin_reader.specs.Units.{Reads}
+use Rattle.boolean_trial.specs.Plain.{IsPlain}
+use Rattle.source_units.specs.declared.refusal.Refusal.{Refusal}
+use Rattle.source_units.specs.Reading.{Reads, Faulty}
 use Rattle.taco_run.specs.declared.answer.Evidence.{Evidence}
 use Rattle.taco_run.specs.declared.answer.Status.{Status}
 use Rattle.taco_run.specs.declared.answer.Status.TheVariants as status
@@ -23,6 +25,7 @@ use Rattle.taco_words.specs.declared.request.Request.{Request}
 use Rattle.taco_words.specs.declared.request.Request.TheVariants as request
 use Rattle.taco_run.specs.ProofCommand.{IsTooLong, IsNoFormula, IsNoLog, IsJudged, HoldsFormula, LiesIn}
 use Rattle.taco_run.specs.SatCommand.{IsSearched}
+use Rattle.taco_run.specs.SourceLines.{source_line}
 use Rattle.taco_run.specs.Texts.{line, no_tuples, holds_report, violated_report, badtext_line}
 
 -- the most bytes of a Java text
@@ -42,10 +45,15 @@ pub record IsPosed (bytes : List ℕ) (job : Job) (p : Posed) : Type 0 where
   pub names : Names p.unit job class p.method
   pub scope : p.scope ≡ job.scope
 
+-- and its method is one of those that are checked so far
+pub record IsTried (bytes : List ℕ) (job : Job) (p : Posed) : Type 0 where
+  pub posed : IsPosed bytes job p
+  pub plain : IsPlain p.unit p.method
+
 -- the method that is asked about holds
 pub record Holding (bytes : List ℕ) (job : Job) : Type 0 where
   pub problem : Posed
-  pub posed : IsPosed bytes job problem
+  pub tried : IsTried bytes job problem
   pub not_violable : Violable problem → ⊥
 
 -- the bytes are the text of a unit that lacks the class, or whose class lacks the method
@@ -55,17 +63,23 @@ pub record LacksMethod (bytes : List ℕ) (job : Job) : Type 0 where
   pub reads : Reads bytes unit
   pub lacks : (class method : ℕ) → Names unit job class method → ⊥
 
--- the bytes are no text of the form that is read
-pub record IsNoText (bytes : List ℕ) : Type 0 where
+-- the bytes are the text of a unit that has the method, which is none of those that are checked so far
+pub record IsNotTried (bytes : List ℕ) (job : Job) : Type 0 where
+  pub problem : Posed
+  pub posed : IsPosed bytes job problem
+  pub not_plain : IsPlain problem.unit problem.method → ⊥
+
+-- the bytes are no text of a unit, and this is their first fault
+pub record IsRefused (bytes : List ℕ) (refusal : Refusal) : Type 0 where
   pub short : length bytes ≤ java_limit
-  pub none : (u : Parts) → Reads bytes u → ⊥
+  pub faulty : Faulty bytes refusal
 
 -- the output tells a start that fits, and a part that breaks from it
 pub record TellsBreach (told : Option (List ℕ)) (job : Job) (output : List ℕ) : Type 0 where
   pub problem : Posed
   pub start : Start
   pub broken : Part
-  pub posed : IfSome told (λ bytes. IsPosed bytes job problem)
+  pub tried : IfSome told (λ bytes. IsTried bytes job problem)
   pub violates : Violates problem start broken
   pub report : output ≡ violated_report problem no_tuples start broken
 
@@ -80,7 +94,8 @@ Says told (Some (request.Proof cnf log)) status.Done output = IsJudged told cnf 
 Says told (Some (request.Proof cnf log)) status.Broken output = IsJudged told cnf log status.Broken output
 -- refusals
 Says told None status.Usage output = output ≡ line (codes "usage")
-Says told (Some (request.Check job budget)) status.NotBuilt output = (output ≡ line (codes "notbuilt")) × IfSome (told job.file) IsNoText
+Says told (Some (request.Check job budget)) status.NotBuilt output = (output ≡ line (codes "notbuilt")) × IfSome (told job.file) (λ bytes. IsNotTried bytes job)
+Says told (Some (request.Check job budget)) (status.Source refusal) output = (output ≡ source_line refusal) × IfSome (told job.file) (λ bytes. IsRefused bytes refusal)
 Says told (Some (request.Check job budget)) status.NoMethod output = (output ≡ line (codes "nomethod")) × IfSome (told job.file) (λ bytes. LacksMethod bytes job)
 Says told (Some (request.Check job budget)) (status.TooLong slot) output =
     (output ≡ line (codes "toolong")) × (slot ≡ 0) × IfSome (told job.file) (λ bytes. java_limit < length bytes)

@@ -13,6 +13,7 @@ code_of status.Done = 0
 code_of status.Broken = 1
 code_of status.Usage = 2
 code_of status.NotBuilt = 3
+code_of (status.Source refusal) = 3
 code_of status.NoMethod = 3
 code_of (status.BadText slot at) = 3
 code_of (status.TooLong slot) = 4

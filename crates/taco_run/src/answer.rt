@@ -3,6 +3,7 @@ ghost use Rattle.taco_run.specs.Statuses.{code_of};
 
 use cnf_core::Cnf;
 use derivation::Log;
+use source_units::Refusal;
 
 /// How a call of `run` or `run_plain` ended.
 #[derive(Clone, Copy, Debug, PartialEq, Eq)]
@@ -20,8 +21,10 @@ pub enum Status {
     Unknown,
     /// The words are no request.
     Usage,
-    /// The text is not of the form that is read so far.
+    /// The method is none of those that are checked so far.
     NotBuilt,
+    /// The bytes of the Java text stand for no unit.
+    Source(Refusal),
     /// The unit lacks the class, or the class the method.
     NoMethod,
     /// The text in this slot is not of its format: the place, in bytes from 0, is that of its first
@@ -46,7 +49,10 @@ impl Status {
             Status::Holds | Status::Done => 0,
             Status::Violated | Status::Broken => 1,
             Status::Usage => 2,
-            Status::NotBuilt | Status::NoMethod | Status::BadText { .. } => 3,
+            Status::NotBuilt
+            | Status::Source(_)
+            | Status::NoMethod
+            | Status::BadText { .. } => 3,
             Status::TooLong { .. } => 4,
             Status::Unknown => 5,
             Status::ReadFault => 6,

@@ -1,25 +1,26 @@
 ghost use Rattle.std.specs.Prelude.{◌≡◌, ◌<◌, ◌≤◌, length, IfOk};
 ghost use Rattle.taco_words.specs.Limits.{IsScope};
 ghost use Rattle.taco_run.specs.Decided.{Checks, Decides, Tells};
-ghost use Rattle.thin_reader.specs.Good.{AllPlain};
+ghost use Rattle.boolean_trial.specs.Plain.{IsPlain};
+ghost use Rattle.taco_run.specs.Decided.{ChecksMethod};
 ghost use Rattle.taco_run.specs.Headline.{java_limit};
 
 use crate::answer::Status;
-use crate::outcome::{Outcome, refusal};
+use crate::outcome::{Outcome, refusal, refused};
 use crate::texts::{holds_text, violated_text};
-use boolean_trial::tried;
+use boolean_trial::{is_plain, tried};
 use heap_core::Problem;
 use no_memory::NoMemory;
 use std::alloc::Global;
 use taco_unit::Unit;
 use taco_words::Job;
-use thin_reader::read_unit;
+use source_units::{Unread, unit_of};
 
 /// Tries a method of a unit.
 fn try_method(alloc: Global, unit: Unit, method: u8, job: &Job) -> Result<Outcome, NoMemory>
     requires there { method < length unit.methods }
     requires scope { IsScope job.now.scope }
-    requires plain { AllPlain unit }
+    requires plain { IsPlain unit method }
     ensures { IfOk result (Tells (record { unit = unit; method = method; scope = job.now.scope })) }
 {
     let scope = job.scope;
@@ -40,17 +41,29 @@ fn try_method(alloc: Global, unit: Unit, method: u8, job: &Job) -> Result<Outcom
     }
 }
 
+/// Tries a method of a unit, if it is one of those that are checked so far.
+fn check_method(alloc: Global, unit: Unit, method: u8, job: &Job) -> Result<Outcome, NoMemory>
+    requires there { method < length unit.methods }
+    requires scope { IsScope job.now.scope }
+    ensures { IfOk result (ChecksMethod unit method job.now.scope) }
+{
+    if is_plain(&unit, method) {
+        try_method(alloc, unit, method, job)
+    } else {
+        refusal(alloc, Status::NotBuilt, "notbuilt")
+    }
+}
+
 /// Looks a method up in a unit, and tries it.
 fn check_unit(alloc: Global, unit: Unit, job: &Job) -> Result<Outcome, NoMemory>
     requires scope { IsScope job.now.scope }
-    requires plain { AllPlain unit }
     ensures { IfOk result (Checks unit job.now) }
 {
     let Some(class) = unit.class_named(job.class.bytes()) else {
         return refusal(alloc, Status::NoMethod, "nomethod");
     };
     match unit.method_named(class, job.method.bytes()) {
-        Some(method) => try_method(alloc, unit, method, job),
+        Some(method) => check_method(alloc, unit, method, job),
         None => refusal(alloc, Status::NoMethod, "nomethod"),
     }
 }
@@ -61,8 +74,9 @@ pub(crate) fn decide(alloc: Global, bytes: &[u8], job: &Job) -> Result<Outcome, 
     requires short { length bytes.now ≤ java_limit }
     ensures { IfOk result (Decides bytes.now job.now) }
 {
-    match read_unit(alloc, bytes)? {
-        Some(unit) => check_unit(alloc, unit, job),
-        None => refusal(alloc, Status::NotBuilt, "notbuilt"),
+    match unit_of(alloc, bytes) {
+        Ok(unit) => check_unit(alloc, unit, job),
+        Err(Unread::Refused(refusal)) => refused(alloc, refusal),
+        Err(Unread::NoMemory) => Err(NoMemory),
     }
 }

@@ -9,6 +9,7 @@ mod outcome;
 mod proof_command;
 mod reading;
 mod sat_command;
+mod source_text;
 mod texts;
 
 pub use answer::{Answer, Evidence, Status};

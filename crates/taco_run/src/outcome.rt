@@ -1,12 +1,15 @@
 ghost use Rattle.std.specs.Prelude.{◌≡◌, None, IfOk};
 ghost use Rattle.taco_run.specs.declared.answer.Status.TheVariants as status;
 ghost use Rattle.taco_run.specs.Steps.{EndsText, IsOrNoMemory, IsOutcome, IsSilent};
+ghost use Rattle.taco_run.specs.SourceLines.{source_line};
 ghost use Rattle.taco_run.specs.Texts.{badtext_line, line};
 
 use crate::answer::{Evidence, Status};
+use crate::source_text::source_text;
 use crate::texts::{badtext, word_line};
 use derivation::TextFault;
 use no_memory::NoMemory;
+use source_units::Refusal;
 use std::alloc::Global;
 
 /// What a request comes to: its status, and what is to be printed.
@@ -59,6 +62,16 @@ pub(crate) fn refusal(alloc: Global, status: Status, word: &str) -> Result<Outco
 {
     let output = word_line(alloc, word)?;
     Ok(Outcome { status, output })
+}
+
+/// The refusal of a Java text, with its line.
+pub(crate) fn refused(alloc: Global, refusal: Refusal) -> Result<Outcome, NoMemory>
+    ensures { IfOk result (IsOutcome (status.Source refusal) (source_line refusal)) }
+{
+    Ok(Outcome {
+        status: Status::Source(refusal),
+        output: source_text(alloc, refusal)?,
+    })
 }
 
 /// The refusal of the text in this slot, with its line.

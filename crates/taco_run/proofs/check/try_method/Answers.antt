@@ -6,4 +6,4 @@ pub violated_text-requires : goal.violated_text-requires
 violated_text-requires c =
     let p : Posed = record { unit = c.args.unit; method = c.args.method; scope = c.args.job.now.scope } in
     let violates = rw c.in-Some.is at c.in_ok-breach.ensures in
-    no_heap p c.in-Some.breach.start c.in-Some.breach.part (c.requires.plain.each c.args.method c.requires.there) violates
+    no_heap p c.in-Some.breach.start c.in-Some.breach.part c.requires.plain violates
