@@ -18,8 +18,8 @@ use Rattle.typed_core.specs.declared.fault.NameFault.{NameFault}
 use Rattle.typed_core.specs.declared.fault.NameFault.TheVariants as name
 use Rattle.typed_core.specs.Members.{resolved}
 use Rattle.typed_core.specs.Resolved.{name_fault, Reports}
-use Rattle.source_units.specs.declared.refusal.Refusal.{Refusal}
-use Rattle.source_units.specs.declared.refusal.Refusal.TheVariants.{BadToken, Syntax, Unsupported, Deep, Unknown, Twice, Kinds, TooMany}
+use Rattle.refusals.specs.declared.refusal.Refusal.{Refusal}
+use Rattle.refusals.specs.declared.refusal.Refusal.TheVariants.{BadToken, Syntax, Unsupported, Deep, Unknown, Twice, Kinds, TooMany}
 use Rattle.source_units.specs.Reading.{Reads, IsMisnamed, Faulty}
 use Rattle.source_units.specs.Told.{Verdict, Unit_, Fault_, Holds}
 

@@ -12,8 +12,8 @@ use Rattle.typed_core.specs.declared.fault.NameFault.{NameFault}
 use Rattle.typed_core.specs.declared.fault.NameFault.TheVariants as name
 use Rattle.typed_core.specs.Members.{resolved}
 use Rattle.typed_core.specs.Resolved.{Reports}
-use Rattle.source_units.specs.declared.refusal.Refusal.{Refusal}
-use Rattle.source_units.specs.declared.refusal.Refusal.TheVariants.{BadToken, Syntax, Unsupported, Deep, Unknown, Twice, Kinds, TooMany}
+use Rattle.refusals.specs.declared.refusal.Refusal.{Refusal}
+use Rattle.refusals.specs.declared.refusal.Refusal.TheVariants.{BadToken, Syntax, Unsupported, Deep, Unknown, Twice, Kinds, TooMany}
 
 -- The bytes are cut into tokens that are a text of the grammar within the levels, and its tree has no fault of names and
 -- kinds and stands for this unit.

@@ -5,8 +5,8 @@ use Rattle.java_reader.specs.declared.fault.SourceFault.TheVariants as source
 use Rattle.taco_unit.specs.Parts.{Parts}
 use Rattle.typed_core.specs.declared.fault.NameFault.{NameFault}
 use Rattle.typed_core.specs.declared.fault.NameFault.TheVariants as name
-use Rattle.source_units.specs.declared.refusal.Refusal.{Refusal}
-use Rattle.source_units.specs.declared.refusal.Refusal.TheVariants.{BadToken, Syntax, Unsupported, Deep, Unknown, Twice, Kinds, TooMany}
+use Rattle.refusals.specs.declared.refusal.Refusal.{Refusal}
+use Rattle.refusals.specs.declared.refusal.Refusal.TheVariants.{BadToken, Syntax, Unsupported, Deep, Unknown, Twice, Kinds, TooMany}
 use Rattle.source_units.specs.declared.refusal.Unread.{Unread}
 use Rattle.source_units.specs.declared.refusal.Unread.TheVariants.{Refused, NoMemory}
 use Rattle.source_units.specs.Reading.{Reads, Faulty}

@@ -7,4 +7,5 @@ mod refusal;
 
 pub use laws::bytes_have_one_unit_or_one_first_fault;
 pub use reading::unit_of;
-pub use refusal::{Refusal, Unread};
+pub use refusal::Unread;
+pub use refusals::Refusal;

@@ -1,0 +1,6 @@
+//! Why the bytes of a Java text stand for no unit.
+#![tactic(auto)]
+
+mod refusal;
+
+pub use refusal::Refusal;
