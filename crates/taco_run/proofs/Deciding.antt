@@ -2,15 +2,15 @@
 use Rattle.std.proofs.Common.{◌≡◌, ◌≢◌, ℕ, ◌≤◌, List, length, Some, refl, sym, ◌∙◌, subst}
 use Rattle.taco_unit.specs.Parts.{Parts}
 use Rattle.boolean_trial.specs.Plain.{IsPlain}
-use Rattle.source_units.specs.declared.refusal.Refusal.{Refusal}
+use Rattle.refusals.specs.declared.refusal.Refusal.{Refusal}
 use Rattle.source_units.specs.Reading.{Reads, Faulty}
-use Rattle.taco_run.specs.declared.answer.Status.{Status}
-use Rattle.taco_run.specs.declared.answer.Status.TheVariants as status
+use Rattle.taco_report.specs.declared.status.Status.{Status}
+use Rattle.taco_report.specs.declared.status.Status.TheVariants as status
 use Rattle.taco_run.specs.declared.outcome.Outcome.{Outcome}
 use Rattle.taco_words.specs.declared.request.Job.{Job}
 use Rattle.taco_words.specs.declared.request.Request.TheVariants as request
 use Rattle.taco_run.specs.Headline.{java_limit, Names, IsPosed, Says}
-use Rattle.taco_run.specs.SourceLines.{source_line}
+use Rattle.taco_report.specs.RefusalLines.{refusal_line}
 use Rattle.taco_run.specs.Steps.{IsOutcome}
 use Rattle.taco_run.specs.Decided.{ChecksBy, Checks, Decides}
 
@@ -42,6 +42,7 @@ decided_by budget bytes job u is short status.Violated output checks =
     }
 decided_by budget bytes job u is short status.Done output checks = absurd checks.3.1
 decided_by budget bytes job u is short status.Broken output checks = absurd checks.3.1
+decided_by budget bytes job u is short (status.BadState at) output checks = absurd checks.3.1
 decided_by budget bytes job u is short (status.BadText slot at) output checks = absurd checks.3.1
 decided_by budget bytes job u is short status.Unknown output checks = absurd checks.3.1
 decided_by budget bytes job u is short status.Usage output checks = absurd checks.3.1
@@ -61,7 +62,7 @@ decided bytes job u is short o checks =
     record { by = λ budget. decided_by budget bytes job u is short o.status o.output.items checks.by; no_fault = no_fault_by job u o.status o.output.items checks.by }
 
 -- a text that is refused
-pub refused_decides : (bytes : List ℕ) (job : Job) (r : Refusal) → length bytes ≤ java_limit → Faulty bytes r → (o : Outcome) → IsOutcome (status.Source r) (source_line r) o → Decides bytes job o
+pub refused_decides : (bytes : List ℕ) (job : Job) (r : Refusal) → length bytes ≤ java_limit → Faulty bytes r → (o : Outcome) → IsOutcome (status.Source r) (refusal_line (status.Source r)) o → Decides bytes job o
 refused_decides bytes job r short faulty o is = record {
   by = λ budget. subst (λ (s : Status). Says (λ name. Some bytes) (Some (request.Check job budget)) s o.output.items) (sym is.status_is) (is.told, record { short = short; faulty = faulty });
   no_fault = λ same. let no : status.Source r ≡ status.ReadFault = sym is.status_is ∙ same in cc;

@@ -6,8 +6,8 @@ use Rattle.no_memory.specs.declared.NoMemory.{NoMemory}
 use Rattle.taco_io.specs.Shelf.{Shelf, Stays, IsCalm}
 use Rattle.taco_io.specs.Taken.{Taken}
 use Rattle.taco_run.specs.declared.answer.Evidence.{Evidence}
-use Rattle.taco_run.specs.declared.answer.Status.{Status}
-use Rattle.taco_run.specs.declared.answer.Status.TheVariants as status
+use Rattle.taco_report.specs.declared.status.Status.{Status}
+use Rattle.taco_report.specs.declared.status.Status.TheVariants as status
 use Rattle.taco_run.specs.declared.outcome.Outcome.{Outcome}
 use Rattle.taco_words.specs.declared.request.Job.{Job}
 use Rattle.taco_words.specs.declared.request.Request.{Request}

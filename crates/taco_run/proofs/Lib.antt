@@ -1,7 +1,6 @@
 pub mod Deciding
 pub mod Joined
 pub mod Lines
-pub mod Plainly
 pub mod Joining
 pub mod Formulas
 pub mod Searching

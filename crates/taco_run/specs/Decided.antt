@@ -7,13 +7,14 @@ use Rattle.heap_core.specs.declared.judged.Part.{Part}
 use Rattle.heap_core.specs.Posed.{Posed}
 use Rattle.heap_core.specs.Judge.{Violates, Violable}
 use Rattle.boolean_trial.specs.Plain.{IsPlain}
-use Rattle.taco_run.specs.declared.answer.Status.{Status}
-use Rattle.taco_run.specs.declared.answer.Status.TheVariants as status
+use Rattle.taco_report.specs.declared.status.Status.{Status}
+use Rattle.taco_report.specs.declared.status.Status.TheVariants as status
 use Rattle.taco_run.specs.declared.outcome.Outcome.{Outcome}
 use Rattle.taco_words.specs.declared.request.Job.{Job}
 use Rattle.taco_words.specs.declared.request.Request.TheVariants as request
 use Rattle.taco_run.specs.Headline.{Names, Says}
-use Rattle.taco_run.specs.Texts.{line, no_tuples, holds_report, violated_report}
+use Rattle.taco_report.specs.Texts.{line}
+use Rattle.taco_report.specs.Reports.{no_tuples, holds_report, violated_report}
 
 -- a start that breaks a part was told
 pub record ToldBreach (p : Posed) (output : List ℕ) : Type 0 where

@@ -15,18 +15,19 @@ use Rattle.taco_io.specs.Counts.{Rose}
 use Rattle.taco_io.specs.Shelf.{Shelf, IsCalm, NameRose}
 use Rattle.taco_io.specs.Taken.{Taken}
 use Rattle.boolean_trial.specs.Plain.{IsPlain}
-use Rattle.source_units.specs.declared.refusal.Refusal.{Refusal}
+use Rattle.refusals.specs.declared.refusal.Refusal.{Refusal}
 use Rattle.source_units.specs.Reading.{Reads, Faulty}
 use Rattle.taco_run.specs.declared.answer.Evidence.{Evidence}
-use Rattle.taco_run.specs.declared.answer.Status.{Status}
-use Rattle.taco_run.specs.declared.answer.Status.TheVariants as status
+use Rattle.taco_report.specs.declared.status.Status.{Status}
+use Rattle.taco_report.specs.declared.status.Status.TheVariants as status
 use Rattle.taco_words.specs.declared.request.Job.{Job}
 use Rattle.taco_words.specs.declared.request.Request.{Request}
 use Rattle.taco_words.specs.declared.request.Request.TheVariants as request
 use Rattle.taco_run.specs.ProofCommand.{IsTooLong, IsNoFormula, IsNoLog, IsJudged, HoldsFormula, LiesIn}
 use Rattle.taco_run.specs.SatCommand.{IsSearched}
-use Rattle.taco_run.specs.SourceLines.{source_line}
-use Rattle.taco_run.specs.Texts.{line, no_tuples, holds_report, violated_report, badtext_line}
+use Rattle.taco_report.specs.Texts.{line}
+use Rattle.taco_report.specs.Reports.{no_tuples, holds_report, violated_report}
+use Rattle.taco_report.specs.RefusalLines.{refusal_line}
 
 -- the most bytes of a Java text
 abbrev pub java_limit : ℕ
@@ -95,15 +96,15 @@ Says told (Some (request.Proof cnf log)) status.Broken output = IsJudged told cn
 -- refusals
 Says told None status.Usage output = output ≡ line (codes "usage")
 Says told (Some (request.Check job budget)) status.NotBuilt output = (output ≡ line (codes "notbuilt")) × IfSome (told job.file) (λ bytes. IsNotTried bytes job)
-Says told (Some (request.Check job budget)) (status.Source refusal) output = (output ≡ source_line refusal) × IfSome (told job.file) (λ bytes. IsRefused bytes refusal)
+Says told (Some (request.Check job budget)) (status.Source refusal) output = (output ≡ refusal_line (status.Source refusal)) × IfSome (told job.file) (λ bytes. IsRefused bytes refusal)
 Says told (Some (request.Check job budget)) status.NoMethod output = (output ≡ line (codes "nomethod")) × IfSome (told job.file) (λ bytes. LacksMethod bytes job)
 Says told (Some (request.Check job budget)) (status.TooLong slot) output =
     (output ≡ line (codes "toolong")) × (slot ≡ 0) × IfSome (told job.file) (λ bytes. java_limit < length bytes)
 Says told (Some (request.Proof cnf log)) (status.BadText slot at) output =
-    (output ≡ badtext_line slot at) × LiesIn told cnf log slot (λ bytes. IsNoFormula bytes at) (λ vars bytes. IsNoLog vars bytes at)
+    (output ≡ refusal_line (status.BadText slot at)) × LiesIn told cnf log slot (λ bytes. IsNoFormula bytes at) (λ vars bytes. IsNoLog vars bytes at)
 Says told (Some (request.Proof cnf log)) (status.TooLong slot) output =
     (output ≡ line (codes "toolong")) × LiesIn told cnf log slot IsTooLong (λ vars. IsTooLong)
-Says told (Some (request.Sat cnf budget)) (status.BadText slot at) output = (output ≡ badtext_line slot at) × (slot ≡ 0) × IfSome (told cnf) (λ bytes. IsNoFormula bytes at)
+Says told (Some (request.Sat cnf budget)) (status.BadText slot at) output = (output ≡ refusal_line (status.BadText slot at)) × (slot ≡ 0) × IfSome (told cnf) (λ bytes. IsNoFormula bytes at)
 Says told (Some (request.Sat cnf budget)) (status.TooLong slot) output = (output ≡ line (codes "toolong")) × (slot ≡ 0) × IfSome (told cnf) IsTooLong
 -- faults that write nothing
 Says told (Some (request.Check job budget)) status.ReadFault output = output ≡ []

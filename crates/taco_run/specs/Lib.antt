@@ -1,7 +1,5 @@
 pub mod Served
-pub mod Statuses
 pub mod Texts
-pub mod SourceLines
 pub mod TextEnds
 pub mod ProofCommand
 pub mod SatCommand

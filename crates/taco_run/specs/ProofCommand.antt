@@ -7,8 +7,8 @@ use Rattle.derivation.specs.LogText.{IsLogText, BlamesLine}
 use Rattle.derivation.specs.Logs.{ends_empty, IsFirstBad, Refutes, Valid}
 use Rattle.derivation.specs.Step.{Step}
 use Rattle.derivation.specs.declared.fault.TextFault.TheVariants as fault
-use Rattle.taco_run.specs.declared.answer.Status.{Status}
-use Rattle.taco_run.specs.declared.answer.Status.TheVariants as status
+use Rattle.taco_report.specs.declared.status.Status.{Status}
+use Rattle.taco_report.specs.declared.status.Status.TheVariants as status
 use Rattle.taco_run.specs.Texts.{refuted_line, valid_line, badline_line}
 
 -- the most bytes of the text of a formula, and of that of a log

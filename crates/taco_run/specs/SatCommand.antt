@@ -6,10 +6,11 @@ use Rattle.derivation.specs.Logs.{Refutes, Spends}
 use Rattle.derivation.specs.Step.{Step}
 use Rattle.sat_solver.specs.Answers.{IsKept}
 use Rattle.taco_run.specs.declared.answer.Evidence.{Evidence}
-use Rattle.taco_run.specs.declared.answer.Status.{Status}
-use Rattle.taco_run.specs.declared.answer.Status.TheVariants as status
+use Rattle.taco_report.specs.declared.status.Status.{Status}
+use Rattle.taco_report.specs.declared.status.Status.TheVariants as status
 use Rattle.taco_run.specs.ProofCommand.{IsFormula}
-use Rattle.taco_run.specs.Texts.{line, satisfiable_text, unsatisfiable_text}
+use Rattle.taco_report.specs.Texts.{line}
+use Rattle.taco_run.specs.Texts.{satisfiable_text, unsatisfiable_text}
 
 -- Values satisfy the formula, one for each variable, and they are told.
 pub record IsSatisfied (formula : Clauses) (output : List ℕ) : Type 0 where

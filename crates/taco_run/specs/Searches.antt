@@ -6,12 +6,13 @@ use Rattle.sat_solver.specs.Answers.{IsKept}
 use Rattle.sat_solver.specs.declared.answer.SatAnswer.{SatAnswer}
 use Rattle.sat_solver.specs.declared.answer.SatAnswer.TheVariants.{Satisfied, Refuted, Spent}
 use Rattle.taco_run.specs.declared.answer.Evidence.{Evidence}
-use Rattle.taco_run.specs.declared.answer.Status.TheVariants as status
+use Rattle.taco_report.specs.declared.status.Status.TheVariants as status
 use Rattle.taco_run.specs.declared.outcome.Outcome.{Outcome}
 use Rattle.taco_run.specs.declared.outcome.Reply.{Reply}
 use Rattle.taco_run.specs.SatCommand.{TellsSearch}
 use Rattle.taco_run.specs.Steps.{IsOutcome}
-use Rattle.taco_run.specs.Texts.{line, satisfiable_text, unsatisfiable_text}
+use Rattle.taco_report.specs.Texts.{line}
+use Rattle.taco_run.specs.Texts.{satisfiable_text, unsatisfiable_text}
 
 -- the outcome that an answer of the solver comes to
 abbrev pub TellsAnswer : SatAnswer → List Step → Outcome → Type 0

@@ -7,15 +7,16 @@ use Rattle.taco_io.specs.Counts.{Rose}
 use Rattle.taco_io.specs.Shelf.{Shelf, IsCalm, NameRose}
 use Rattle.taco_io.specs.Taken.{Taken}
 use Rattle.taco_run.specs.declared.answer.Evidence.{Evidence}
-use Rattle.taco_run.specs.declared.answer.Status.{Status}
-use Rattle.taco_run.specs.declared.answer.Status.TheVariants as status
+use Rattle.taco_report.specs.declared.status.Status.{Status}
+use Rattle.taco_report.specs.declared.status.Status.TheVariants as status
 use Rattle.taco_run.specs.declared.outcome.Outcome.{Outcome}
 use Rattle.taco_run.specs.declared.outcome.TextEnd.{TextEnd}
 use Rattle.taco_run.specs.declared.outcome.TextEnd.TheVariants as end
 use Rattle.taco_words.specs.declared.request.Request.{Request}
 use Rattle.taco_run.specs.Headline.{Answers, FileRose, Leaves}
 use Rattle.taco_run.specs.ProofCommand.{IsTooLong}
-use Rattle.taco_run.specs.Texts.{line, badtext_line}
+use Rattle.taco_report.specs.Texts.{line}
+use Rattle.taco_report.specs.RefusalLines.{refusal_line}
 
 -- what the reading of a whole file answers of its content, and what it does to the counts
 abbrev pub ReadsFile : List ℕ → ℕ → Shelf → Shelf → Result (Vec ℕ Global) TextEnd → Type 0
@@ -79,7 +80,7 @@ pub record IsEnding (ends : Status) (output : List ℕ) (o : Outcome) : Type 0 w
 
 -- how a request ends whose file of this slot gave no value
 abbrev pub EndsText : ℕ → TextEnd → Outcome → Type 0
-EndsText slot (end.BadText at) o = IsEnding (status.BadText slot at) (badtext_line slot at) o
+EndsText slot (end.BadText at) o = IsEnding (status.BadText slot at) (refusal_line (status.BadText slot at)) o
 EndsText slot end.TooLong o = IsEnding (status.TooLong slot) (line (codes "toolong")) o
 EndsText slot end.Fault o = IsSilent status.ReadFault o
 EndsText slot end.NoMemory o = IsSilent status.NoMemory o

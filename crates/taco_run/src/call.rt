@@ -1,14 +1,14 @@
 ghost use Rattle.std.specs.Prelude.{◌≡◌, ◌≢◌, ℕ, map, codes, Some, None};
-ghost use Rattle.taco_run.specs.declared.answer.Status.TheVariants as status;
+ghost use Rattle.taco_report.specs.declared.status.Status.TheVariants as status;
 ghost use Rattle.taco_words.specs.declared.request.Request.TheVariants as request;
 ghost use Rattle.taco_run.specs.Headline.{Runs};
 ghost use Rattle.taco_run.specs.Served.{served, served_plainly};
 ghost use Rattle.taco_run.specs.Steps.{IsAnswered, IsEnding, IsWritten};
-ghost use Rattle.taco_run.specs.Texts.{line};
+ghost use Rattle.taco_report.specs.Texts.{line};
 ghost use Rattle.taco_words.specs.Asked.{asked};
 ghost use Rattle.taco_words.specs.Limits.{IsScope, IsWithin};
 
-use crate::answer::{Answer, Status};
+use crate::answer::Answer;
 use crate::check::decide;
 use crate::outcome::{Outcome, Reply, ended, or_no_memory, plain, refusal, silent};
 use crate::proof_command::check_log;
@@ -16,6 +16,7 @@ use crate::reading::read_file;
 use crate::sat_command::search_formula;
 use std::alloc::Global;
 use taco_io::{Files, Sink, write_all};
+use taco_report::Status;
 use taco_words::{Job, Request, RequestFault, request_of};
 
 /// The most bytes of a Java text.
@@ -37,7 +38,7 @@ fn check_file<F: Files>(alloc: Global, files: &mut F, job: &Job) -> Outcome
 fn usage(alloc: Global) -> Outcome
     ensures { IsEnding status.Usage (line (codes "usage")) result }
 {
-    or_no_memory(alloc, refusal(alloc, Status::Usage, "usage"))
+    or_no_memory(alloc, refusal(alloc, Status::Usage))
 }
 
 /// Does a request of those that `run_plain` serves.

@@ -5,13 +5,12 @@ ghost use Rattle.boolean_trial.specs.Plain.{IsPlain};
 ghost use Rattle.taco_run.specs.Decided.{ChecksMethod};
 ghost use Rattle.taco_run.specs.Headline.{java_limit};
 
-use crate::answer::Status;
-use crate::outcome::{Outcome, refusal, refused};
-use crate::texts::{holds_text, violated_text};
+use crate::outcome::{Outcome, refusal};
 use boolean_trial::{is_plain, tried};
 use heap_core::Problem;
 use no_memory::NoMemory;
 use std::alloc::Global;
+use taco_report::{Status, holds_text, violated_text};
 use taco_unit::Unit;
 use taco_words::Job;
 use source_units::{Unread, unit_of};
@@ -50,7 +49,7 @@ fn check_method(alloc: Global, unit: Unit, method: u8, job: &Job) -> Result<Outc
     if is_plain(&unit, method) {
         try_method(alloc, unit, method, job)
     } else {
-        refusal(alloc, Status::NotBuilt, "notbuilt")
+        refusal(alloc, Status::NotBuilt)
     }
 }
 
@@ -60,11 +59,11 @@ fn check_unit(alloc: Global, unit: Unit, job: &Job) -> Result<Outcome, NoMemory>
     ensures { IfOk result (Checks unit job.now) }
 {
     let Some(class) = unit.class_named(job.class.bytes()) else {
-        return refusal(alloc, Status::NoMethod, "nomethod");
+        return refusal(alloc, Status::NoMethod);
     };
     match unit.method_named(class, job.method.bytes()) {
         Some(method) => check_method(alloc, unit, method, job),
-        None => refusal(alloc, Status::NoMethod, "nomethod"),
+        None => refusal(alloc, Status::NoMethod),
     }
 }
 
@@ -76,7 +75,7 @@ pub(crate) fn decide(alloc: Global, bytes: &[u8], job: &Job) -> Result<Outcome, 
 {
     match unit_of(alloc, bytes) {
         Ok(unit) => check_unit(alloc, unit, job),
-        Err(Unread::Refused(refusal)) => refused(alloc, refusal),
+        Err(Unread::Refused(fault)) => refusal(alloc, Status::Source(fault)),
         Err(Unread::NoMemory) => Err(NoMemory),
     }
 }

@@ -9,11 +9,11 @@ mod outcome;
 mod proof_command;
 mod reading;
 mod sat_command;
-mod source_text;
 mod texts;
 
-pub use answer::{Answer, Evidence, Status};
+pub use answer::{Answer, Evidence};
 pub use call::{run, run_plain};
+pub use taco_report::Status;
 pub use taco_words::{Job, Request, RequestFault, Schedule, Text, request_of};
 
 #[cfg(test)]

@@ -1,16 +1,16 @@
 ghost use Rattle.std.specs.Prelude.{◌≡◌, None, IfOk};
-ghost use Rattle.taco_run.specs.declared.answer.Status.TheVariants as status;
+ghost use Rattle.taco_report.specs.Statuses.{IsRefusal};
+ghost use Rattle.taco_report.specs.declared.status.Status.TheVariants as status;
 ghost use Rattle.taco_run.specs.Steps.{EndsText, IsOrNoMemory, IsOutcome, IsSilent};
-ghost use Rattle.taco_run.specs.SourceLines.{source_line};
-ghost use Rattle.taco_run.specs.Texts.{badtext_line, line};
+ghost use Rattle.taco_report.specs.Texts.{line};
+ghost use Rattle.taco_report.specs.RefusalLines.{refusal_line};
 
-use crate::answer::{Evidence, Status};
-use crate::source_text::source_text;
-use crate::texts::{badtext, word_line};
+use crate::answer::Evidence;
+use crate::texts::word_line;
 use derivation::TextFault;
 use no_memory::NoMemory;
-use source_units::Refusal;
 use std::alloc::Global;
+use taco_report::{Status, refusal_text};
 
 /// What a request comes to: its status, and what is to be printed.
 #[derive(Drop)]
@@ -56,32 +56,21 @@ pub(crate) fn or_no_memory(alloc: Global, outcome: Result<Outcome, NoMemory>) ->
     }
 }
 
-/// A refusal, with its line.
-pub(crate) fn refusal(alloc: Global, status: Status, word: &str) -> Result<Outcome, NoMemory>
-    ensures { IfOk result (IsOutcome status (line word.now)) }
+/// An outcome with a line of these words.
+pub(crate) fn worded(alloc: Global, status: Status, words: &str) -> Result<Outcome, NoMemory>
+    ensures { IfOk result (IsOutcome status (line words.now)) }
 {
-    let output = word_line(alloc, word)?;
+    let output = word_line(alloc, words)?;
     Ok(Outcome { status, output })
 }
 
-/// The refusal of a Java text, with its line.
-pub(crate) fn refused(alloc: Global, refusal: Refusal) -> Result<Outcome, NoMemory>
-    ensures { IfOk result (IsOutcome (status.Source refusal) (source_line refusal)) }
+/// A refusal, with its line.
+pub(crate) fn refusal(alloc: Global, status: Status) -> Result<Outcome, NoMemory>
+    requires { IsRefusal status }
+    ensures { IfOk result (IsOutcome status (refusal_line status)) }
 {
-    Ok(Outcome {
-        status: Status::Source(refusal),
-        output: source_text(alloc, refusal)?,
-    })
-}
-
-/// The refusal of the text in this slot, with its line.
-fn bad_text(alloc: Global, slot: u8, at: u32) -> Result<Outcome, NoMemory>
-    ensures { IfOk result (IsOutcome (status.BadText slot at) (badtext_line slot at)) }
-{
-    Ok(Outcome {
-        status: Status::BadText { slot, at },
-        output: badtext(alloc, slot, at)?,
-    })
+    let output = refusal_text(alloc, &status)?;
+    Ok(Outcome { status, output })
 }
 
 /// Why the text in a slot gave no value.
@@ -116,11 +105,10 @@ pub(crate) fn ended(alloc: Global, slot: u8, end: TextEnd) -> Outcome
     ensures { EndsText slot end result }
 {
     match end {
-        TextEnd::BadText { at } => or_no_memory(alloc, bad_text(alloc, slot, at)),
-        TextEnd::TooLong => or_no_memory(
-            alloc,
-            refusal(alloc, Status::TooLong { slot }, "toolong"),
-        ),
+        TextEnd::BadText { at } => {
+            or_no_memory(alloc, refusal(alloc, Status::BadText { slot, at }))
+        },
+        TextEnd::TooLong => or_no_memory(alloc, refusal(alloc, Status::TooLong { slot })),
         TextEnd::Fault => silent(alloc, Status::ReadFault),
         TextEnd::NoMemory => silent(alloc, Status::NoMemory),
     }

@@ -5,7 +5,6 @@ ghost use Rattle.taco_run.specs.ProofCommand.{text_limit, IsFormula, IsLog, IsNo
 ghost use Rattle.taco_run.specs.Steps.{Fetches, IsAnswered, TakesFor};
 ghost use Rattle.taco_run.specs.Texts.{refuted_line, valid_line};
 
-use crate::answer::Status;
 use crate::outcome::{Outcome, TextEnd, ended, or_no_memory};
 use crate::reading::read_file;
 use crate::texts::{badline, refuted, valid};
@@ -14,6 +13,7 @@ use derivation::{CheckFault, Checked, Log, check, read_cnf, read_log};
 use no_memory::NoMemory;
 use std::alloc::Global;
 use taco_io::Files;
+use taco_report::Status;
 use taco_words::Text;
 
 /// The most bytes of the text of a formula, and of that of a log.

@@ -4,8 +4,8 @@ ghost use Rattle.taco_words.specs.declared.request.Request.TheVariants as reques
 ghost use Rattle.taco_run.specs.Searches.{IsVerdict, TellsAnswer};
 ghost use Rattle.taco_run.specs.Steps.{IsAnswered};
 
-use crate::answer::{Evidence, Status};
-use crate::outcome::{Outcome, Reply, ended, plain, refusal, silent};
+use crate::answer::Evidence;
+use crate::outcome::{Outcome, Reply, ended, plain, silent, worded};
 use crate::proof_command::read_formula;
 use crate::texts::{satisfiable, unsatisfiable};
 use cnf_core::Cnf;
@@ -14,6 +14,7 @@ use no_memory::NoMemory;
 use sat_solver::{SatAnswer, Solved, Solver};
 use std::alloc::Global;
 use taco_io::Files;
+use taco_report::Status;
 use taco_words::Text;
 
 /// What the answer of a search comes to.
@@ -29,7 +30,7 @@ fn told(alloc: Global, answer: &SatAnswer, log: &Log) -> Result<Outcome, NoMemor
             status: Status::Done,
             output: unsatisfiable(alloc, log)?,
         }),
-        SatAnswer::Spent => refusal(alloc, Status::Unknown, "s UNKNOWN"),
+        SatAnswer::Spent => worded(alloc, Status::Unknown, "s UNKNOWN"),
     }
 }
 

@@ -83,9 +83,76 @@ fn refusals_have_their_lines(rt: HostRuntime) -> Result<(), Fail> {
     );
     assert_eq!(rt;
         status_of(alloc, b"class B {\n}\n", &WORDS, 9, &[], &mut sink)?,
+        Status::NoMethod
+    );
+    let untried = b"class B {\n  boolean id(boolean a) { return a; }\n}\n";
+    assert_eq!(rt;
+        status_of(alloc, untried, &WORDS, 9, &[], &mut sink)?,
         Status::NotBuilt
     );
-    assert_eq!(rt; sink.bytes(), b"nomethod\nusage\nnotbuilt\n".as_slice());
+    assert_eq!(rt; sink.bytes(), b"nomethod\nusage\nnomethod\nnotbuilt\n".as_slice());
+    Ok(())
+}
+
+/// Java texts that are refused, and the lines about them.
+const REFUSED: [(&str, &str); 13] = [
+    ("", "source syntax 0\n"),
+    ("class L {\n", "source syntax 10\n"),
+    ("class A { int[] x; }", "source unsupported array 13\n"),
+    ("class A { B x; }", "source unknown 10\n"),
+    ("class A { # }", "source badtoken 10\n"),
+    ("class A { int x; boolean x; }", "source twice 25\n"),
+    ("class A { int f() { return true; } }", "source kinds 27\n"),
+    ("class A { // #\n int f() { return /* */ \"x\"; } }", "source unsupported text 41\n"),
+    ("class A { void f() { for (;;) { } } }", "source unsupported statement 21\n"),
+    ("class A { //@ pure\n void f() { } }", "source unsupported jml 14\n"),
+    ("class A { double x; }", "source unsupported type 10\n"),
+    (
+        "class A { void f(int a, int b, int c, int d, int e, int f, int g, int h, int i) { } }",
+        "source toomany params 77\n",
+    ),
+    ("class A extends B { }", "source unsupported class 8\n"),
+];
+
+#[test]
+fn texts_that_are_refused_have_the_place_of_their_fault(rt: HostRuntime) -> Result<(), Fail> {
+    let alloc = rt.alloc();
+    for (text, line) in &REFUSED {
+        let mut sink = MemSink::new(alloc, 100, 9, Vec::new(alloc))?;
+        let status = status_of(alloc, text.as_bytes(), &WORDS, 9, &[], &mut sink)?;
+        assert_eq!(rt; status.code(), 3);
+        assert_eq!(rt; sink.bytes(), line.as_bytes(), "{text}");
+    }
+    Ok(())
+}
+
+/// A method over booleans whose value stands in so many brackets.
+fn nested(alloc: Global, depth: usize) -> Result<Vec<u8>, Fail> {
+    let mut text = b"class D { static boolean f(boolean a) { return ".to_vec(alloc)?;
+    for _ in 0..depth {
+        text.push(b'(')?;
+    }
+    text.push(b'a')?;
+    for _ in 0..depth {
+        text.push(b')')?;
+    }
+    text.extend_from_slice(b"; } }")?;
+    Ok(text)
+}
+
+#[test]
+fn sixty_four_levels_are_read(rt: HostRuntime) -> Result<(), Fail> {
+    let alloc = rt.alloc();
+    let words = ["check", "B.java", "--class", "D", "--method", "f"];
+    let mut sink = MemSink::new(alloc, 1000, 99, Vec::new(alloc))?;
+    let text = nested(alloc, 64)?;
+    assert_eq!(rt; status_of(alloc, &text, &words, 99, &[], &mut sink)?, Status::Holds);
+    assert_eq!(rt; sink.bytes(), HOLDS.as_bytes());
+    let mut sink = MemSink::new(alloc, 1000, 99, Vec::new(alloc))?;
+    let text = nested(alloc, 65)?;
+    let status = status_of(alloc, &text, &words, 99, &[], &mut sink)?;
+    assert_eq!(rt; status.code(), 3);
+    assert_eq!(rt; sink.bytes(), b"source deep 111\n".as_slice());
     Ok(())
 }
 
@@ -134,13 +201,15 @@ fn a_text_over_the_limit(rt: HostRuntime) -> Result<(), Fail> {
     let mut sink = MemSink::new(alloc, 1000, 9, Vec::new(alloc))?;
     assert_eq!(rt;
         status_of(alloc, &text, &WORDS, 9999, &[], &mut sink)?,
-        Status::NotBuilt
+        Status::Holds
     );
     text.push(b' ')?;
     let status = status_of(alloc, &text, &WORDS, 9999, &[], &mut sink)?;
     assert_eq!(rt; status, Status::TooLong { slot: 0 });
     assert_eq!(rt; status.code(), 4);
-    assert_eq!(rt; sink.bytes(), b"notbuilt\ntoolong\n".as_slice());
+    let mut wanted = HOLDS.as_bytes().to_vec(alloc)?;
+    wanted.extend_from_slice(b"toolong\n")?;
+    assert_eq!(rt; sink.bytes(), wanted.as_slice());
     Ok(())
 }
 
