@@ -10,7 +10,9 @@ use Rattle.java_tree.specs.Print.{Word, word, symbol, modifiers_written, type_te
 use Rattle.taco_unit.specs.Words.{is_word}
 use Rattle.round_trip.proofs.Spells.{Spellable, AllSpellable}
 use Rattle.round_trip.proofs.PrintedText.{spellable_front, spellable_behind}
-use Rattle.typed_core.specs.Members.{is_part_named, is_named, are_named}
+use Rattle.java_reader.specs.Source.{IsText}
+use Rattle.round_trip.proofs.ReadAgain.{words_spell}
+use Rattle.source_units.specs.Names.{is_part_named, is_named, are_named}
 
 both : (a b : Bool) → a ≡ true → b ≡ true → (a && b) ≡ true
 both true b x y = y
@@ -64,3 +66,6 @@ class_named c good =
 pub classes_named : (cs : Classes) → AllSpellable (tree_written cs) → IsTrue (are_named cs)
 classes_named [] good = refl
 classes_named (c ∷ cs) good = both _ _ (class_named c (spellable_front (class_written c) (tree_written cs) good)) (classes_named cs (spellable_behind (class_written c) (tree_written cs) good))
+
+pub text_named : (bytes : List ℕ) (cs : Classes) → IsText bytes cs → IsTrue (are_named cs)
+text_named bytes cs text = classes_named cs (words_spell bytes text.tokens cs text.cut text.parse)

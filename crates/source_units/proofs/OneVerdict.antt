@@ -161,6 +161,7 @@ unit_one bytes u v x y =
     cc
 
 no_fault : (s : Seen Parts) (u : Parts) (f : NameFault) → s ≡ Stands u → Reports s f → ⊥
+unfolding soonest
 no_fault s u f is x = let none : Reports (Stands u) f = subst (λ (t : Seen Parts). Reports t f) is x in empty none
   where
     empty : Reports (Stands u) f → ⊥

@@ -5,7 +5,7 @@ mod laws;
 mod reading;
 mod refusal;
 
-pub use laws::bytes_have_one_unit_or_one_first_fault;
+pub use laws::{a_text_declares_words, bytes_have_one_unit_or_one_first_fault};
 pub use reading::unit_of;
 pub use refusal::Unread;
 pub use refusals::Refusal;

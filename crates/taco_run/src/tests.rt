@@ -103,7 +103,7 @@ const REFUSED: [(&str, &str); 13] = [
     ("class A { # }", "source badtoken 10\n"),
     ("class A { int x; boolean x; }", "source twice 25\n"),
     ("class A { int f() { return true; } }", "source kinds 27\n"),
-    ("class A { // #\n int f() { return /* */ \"x\"; } }", "source unsupported text 41\n"),
+    ("class A { // #\n int f() { return /* */ \"x\"; } }", "source unsupported text 39\n"),
     ("class A { void f() { for (;;) { } } }", "source unsupported statement 21\n"),
     ("class A { //@ pure\n void f() { } }", "source unsupported jml 14\n"),
     ("class A { double x; }", "source unsupported type 10\n"),
