@@ -1,26 +1,16 @@
 -- What the code's proofs cite.
-use Rattle.std.proofs.Common.{◌≡◌, ℕ, zero, suc, ◌+◌, ◌<◌, ◌≤◌, Bool, true, false, List, [], ◌∷◌, ◌++◌, length, map, Vec, Box, Global, Option, Some, None, refl, sym, ap, ◌∙◌, subst, arith, append_assoc, append-nil, length-append}
+use Rattle.std.proofs.Common.{◌≡◌, ℕ, zero, suc, false, List, [], ◌∷◌, map, Option, Some, None, refl, sym, ap, ◌∙◌}
 use Rattle.java_lex.specs.declared.token.Token.{Token}
-use Rattle.java_tree.specs.declared.expressions.JavaNode.{JavaNode}
-use Rattle.java_tree.specs.declared.expressions.JavaNode.TheBlock as block
 use Rattle.java_tree.specs.declared.statements.StmtTree.{StmtTree}
-use Rattle.java_tree.specs.declared.expressions.JavaTree.{JavaTree}
-use Rattle.java_tree.specs.declared.expressions.JavaNode.TheVariants.{CallOn}
-use Rattle.java_tree.specs.declared.names.Ident.{Ident}
-use Rattle.java_tree.proofs.Rows.{java_call_on}
-use Rattle.java_tree.specs.Trees.{Expr, Exprs, call_on, Stmt, Stmts, done, next}
-use Rattle.java_tree.specs.Expressions.{place}
-use Rattle.java_tree.specs.Seen.{java_node, java_tree, java_trees, stmt_tree, stmt_trees}
-use Rattle.reading_core.specs.declared.stop.Stop.{Stop}
-use Rattle.reading_core.specs.declared.stop.Stop.TheVariants.{Memory, Wrong, Deep as DeepStop}
-use Rattle.reading_core.specs.Read.{Read, Got, Bad, Deep, ◌>>=◌, at_side}
+use Rattle.java_tree.specs.Trees.{Expr, Exprs, Stmt, next}
+use Rattle.java_tree.specs.Seen.{stmt_tree, stmt_trees}
+use Rattle.reading_core.specs.Read.{at_side}
 use Rattle.java_reading.specs.declared.form.Reached.{Reached}
 use Rattle.java_lex.specs.declared.spelling.Terminal.{Terminal}
 use Rattle.java_reading.specs.declared.form.Turn.{Turn}
 use Rattle.java_reading.specs.declared.form.Turn.TheVariants.{Goes}
-use Rattle.java_reading.specs.Readers.{Reader, head, give, and_then, repeat_by, repeat, left_below}
+use Rattle.java_reading.specs.Readers.{Reader, left_below}
 use Rattle.java_reading.specs.StatementReading.{turn_of, turn_in, reached_in, further_in, step_in, statement_at, statement_in, under_at, stmts_of}
-
 
 pub list_stmts : (ss : List StmtTree) → stmts_of (map stmt_tree ss) ≡ stmt_trees ss
 list_stmts [] = refl

@@ -1,5 +1,5 @@
 -- The loop over what stands behind the first name of an import.
-use Rattle.std.proofs.Common.{◌≡◌, ℕ, zero, suc, ◌+◌, ◌<◌, Bool, true, false, List, [], ◌∷◌, length, refl, sym, ap, ◌∙◌, subst, arith, Bor}
+use Rattle.std.proofs.Common.{◌≡◌, ℕ, zero, suc, ◌<◌, Bool, true, false, List, length, refl, sym, ap, ◌∙◌, subst, arith, Bor}
 use Rattle.std.specs.Prelude.{Result, Err, Option}
 use Rattle.java_lex.specs.declared.token.Token.{Token}
 use Rattle.reading_core.specs.declared.stop.Stop.{Stop}

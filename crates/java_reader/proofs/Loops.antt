@@ -1,5 +1,5 @@
 -- A loop that reads parts as long as one begins.
-use Rattle.std.proofs.Common.{◌≡◌, ℕ, zero, suc, ◌+◌, ◌<◌, ◌≤◌, Bool, true, false, List, [], ◌∷◌, ◌++◌, length, map, Option, refl, sym, ap, ◌∙◌, subst, arith, Bor, append_assoc, append-nil}
+use Rattle.std.proofs.Common.{◌≡◌, ℕ, zero, suc, ◌<◌, Bool, true, false, List, [], ◌∷◌, ◌++◌, length, map, Option, refl, sym, ap, ◌∙◌, subst, arith, Bor, append_assoc, append-nil}
 use Rattle.std.specs.Prelude.{Result, Err}
 use Rattle.java_lex.specs.declared.token.Token.{Token}
 use Rattle.reading_core.specs.declared.stop.Stop.{Stop}
@@ -47,9 +47,9 @@ module _ {A : Type 0} (begins : Option Token → Bool) (item : Reader A) where
     turns = suc (length behind);
     few = omega arith;
     is =
-      ap (λ o. give (λ (x : A × List A). x.0 ∷ x.1) (and_then o (λ a rest. repeat_by begins item (suc (length rest)) rest))) got
-      ∙ give_listed first (repeat_by begins item (suc (length behind)) behind)
-      ∙ ap (λ (p : List A). give (λ more. p ++ more) (repeat_by begins item (suc (length behind)) behind)) (sym one);
+        ap (λ o. give (λ (x : A × List A). x.0 ∷ x.1) (and_then o (λ a rest. repeat_by begins item (suc (length rest)) rest))) got
+        ∙ give_listed first (repeat_by begins item (suc (length behind)) behind)
+        ∙ ap (λ (p : List A). give (λ more. p ++ more) (repeat_by begins item (suc (length behind)) behind)) (sym one);
   }
 
   turned : (n : ℕ) (rest : List Token) → begins (head rest) ≡ true → repeat_by begins item (suc n) rest ≡ give (λ (x : A × List A). x.0 ∷ x.1) (and_then (item rest) (λ a more. repeat_by begins item n more))
@@ -66,10 +66,10 @@ module _ {A : Type 0} (begins : Option Token → Bool) (item : Reader A) where
       turns = n;
       few = omega arith;
       is =
-        is
-        ∙ ap (give (λ more. parts ++ more)) (turned n rest at ∙ ap (λ o. give (λ (x : A × List A). x.0 ∷ x.1) (and_then o (λ a more. repeat_by begins item n more))) got)
-        ∙ give_both parts a (repeat_by begins item n behind)
-        ∙ ap (λ (p : List A). give (λ more. p ++ more) (repeat_by begins item n behind)) (sym same);
+          is
+          ∙ ap (give (λ more. parts ++ more)) (turned n rest at ∙ ap (λ o. give (λ (x : A × List A). x.0 ∷ x.1) (and_then o (λ a more. repeat_by begins item n more))) got)
+          ∙ give_both parts a (repeat_by begins item n behind)
+          ∙ ap (λ (p : List A). give (λ more. p ++ more) (repeat_by begins item n behind)) (sym same);
     }
 
     end_by : (n : ℕ) → length rest < n → whole ≡ give (λ more. parts ++ more) (repeat_by begins item n rest) → begins (head rest) ≡ false → whole ≡ Got parts rest

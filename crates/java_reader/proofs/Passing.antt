@@ -1,5 +1,5 @@
 -- A loop that reads parts as long as one begins, and keeps none of them.
-use Rattle.std.proofs.Common.{◌≡◌, ℕ, zero, suc, ◌+◌, ◌<◌, ◌≤◌, Bool, true, false, List, [], ◌∷◌, length, Option, refl, sym, ap, ◌∙◌, subst, arith, Bor}
+use Rattle.std.proofs.Common.{◌≡◌, ℕ, zero, suc, ◌<◌, Bool, true, false, List, [], ◌∷◌, length, Option, refl, sym, ap, ◌∙◌, subst, arith, Bor}
 use Rattle.std.specs.Prelude.{Result, Ok, Err, MatchResult}
 use Rattle.java_lex.specs.declared.token.Token.{Token}
 use Rattle.reading_core.specs.declared.stop.Stop.{Stop}

@@ -1,10 +1,10 @@
 -- What a statement is read as, by what the code has seen of it.
-use Rattle.std.proofs.Common.{◌≡◌, ℕ, zero, suc, Bool, true, false, List, [], ◌∷◌, map, Option, Some, None, refl, sym, ap, ◌∙◌, subst, Bor}
+use Rattle.std.proofs.Common.{◌≡◌, ℕ, zero, suc, true, false, List, [], ◌∷◌, map, Option, Some, None, refl, sym, ap, ◌∙◌, subst, Bor}
 use Rattle.std.specs.Prelude.{Result, Err}
 use Rattle.java_lex.specs.declared.token.Token.{Token}
 use Rattle.java_tree.specs.declared.names.Ident.{Ident}
 use Rattle.java_tree.specs.declared.statements.StmtTree.{StmtTree}
-use Rattle.java_tree.specs.Trees.{Expr, Stmt, Stmts, block, if_only, if_else, next}
+use Rattle.java_tree.specs.Trees.{Expr, Stmt, Stmts, block, if_else}
 use Rattle.java_tree.specs.Phrases.{letter, ident_of}
 use Rattle.java_tree.specs.Seen.{stmt_tree, stmt_trees}
 use Rattle.reading_core.specs.declared.stop.Stop.{Stop}
@@ -14,8 +14,8 @@ use Rattle.reading_core.specs.Gives.{Gives}
 use Rattle.reading_core.proofs.Runs.{when_true, when_false}
 use Rattle.java_reading.specs.declared.form.Form.{Form}
 use Rattle.java_reading.specs.declared.marks.Fixed.TheVariants.{OpenBrace, CloseBrace, If, Else}
-use Rattle.java_reading.specs.Forms.{form_of, begins_statement}
-use Rattle.java_reading.specs.Readers.{Reader, head, give, and_then, with_first, deeper_by, opening, optional, repeat, left_below}
+use Rattle.java_reading.specs.Forms.{form_of}
+use Rattle.java_reading.specs.Readers.{Reader, head, give, and_then, with_first, deeper_by, opening, optional, left_below}
 use Rattle.java_reading.specs.Tokens.{fixed, next_is, next_is_name, stands}
 use Rattle.java_reading.specs.StatementReading.{stmts_of, statement_at, statement_in, statement_by, statements_in, under_at, headed_in, block_in, if_in, else_in, choice_of, behind_name_in, named_in, further_in}
 use Rattle.text_reading.specs.Readers.{expression_at, arguments_at}

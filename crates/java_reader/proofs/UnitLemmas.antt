@@ -1,11 +1,11 @@
 -- A unit, by what stands before its classes.
-use Rattle.std.proofs.Common.{◌≡◌, ℕ, false, List, Option, ap, ◌∙◌, sym, subst, Bor}
+use Rattle.std.proofs.Common.{◌≡◌, ℕ, false, List, Option, ◌∙◌, sym, subst, Bor}
 use Rattle.std.specs.Prelude.{Result, Err}
 use Rattle.java_lex.specs.declared.token.Token.{Token}
 use Rattle.java_tree.specs.Trees.{Classes}
 use Rattle.reading_core.specs.declared.stop.Stop.{Stop}
 use Rattle.reading_core.specs.declared.stop.Stop.TheVariants.{Memory, Wrong, Deep as DeepStop}
-use Rattle.reading_core.specs.Read.{Read, Got, Bad, Deep, ◌>>=◌ as ◌⟫◌}
+use Rattle.reading_core.specs.Read.{Read, Got, ◌>>=◌ as ◌⟫◌}
 use Rattle.reading_core.specs.Gives.{Gives}
 use Rattle.java_reading.specs.declared.marks.Fixed.TheVariants.{Package, Import}
 use Rattle.java_reading.specs.Gives.{Blames}
@@ -13,7 +13,7 @@ use Rattle.java_reading.specs.Readers.{Reader, optional, repeat}
 use Rattle.java_reading.specs.Tokens.{next_is}
 use Rattle.java_reading.specs.MemberReading.{package_in, import_in, classes_in, unit_in}
 use Rattle.text_reading.specs.Readers.{expression_at, arguments_at, predicate_at}
-use Rattle.java_reader.specs.Headers.{Passes, passed, own_package_passed, imports_passed}
+use Rattle.java_reader.specs.Headers.{Passes, own_package_passed, imports_passed}
 use Rattle.java_reader.proofs.Passing.{first_blames, then_passed}
 
 module _ (left : ℕ) where

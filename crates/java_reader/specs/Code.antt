@@ -1,8 +1,8 @@
 -- What stands behind a word that opens a level.
-use Rattle.std.specs.Prelude.{ℕ, List, Option, Some, None}
+use Rattle.std.specs.Prelude.{ℕ, List, Some, None}
 use Rattle.java_lex.specs.declared.token.Token.{Token}
 use Rattle.java_tree.specs.Trees.{Expr, Stmt}
-use Rattle.reading_core.specs.Read.{Read, Deep}
+use Rattle.reading_core.specs.Read.{Deep}
 use Rattle.java_reading.specs.Readers.{Reader, and_then, left_below}
 use Rattle.java_reading.specs.StatementReading.{condition_in, statement_at}
 use Rattle.text_reading.specs.Readers.{expression_at, arguments_at}

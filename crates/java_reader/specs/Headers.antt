@@ -1,12 +1,12 @@
 -- What stands before the classes of a text, which no tree keeps.
-use Rattle.std.specs.Prelude.{◌≡◌, Bool, true, false, List, Result, Ok, Err}
+use Rattle.std.specs.Prelude.{◌≡◌, false, List, Result, Ok, Err}
 use Rattle.std.specs.Borrow.{Bor}
 use Rattle.java_lex.specs.declared.token.Token.{Token}
 use Rattle.reading_core.specs.declared.stop.Stop.{Stop}
 use Rattle.reading_core.specs.Read.{Read, Got}
-use Rattle.java_reading.specs.declared.marks.Fixed.TheVariants.{Dot, Package, Import, Static}
+use Rattle.java_reading.specs.declared.marks.Fixed.TheVariants.{Package, Import, Static}
 use Rattle.java_reading.specs.Gives.{Blames}
-use Rattle.java_reading.specs.Readers.{Reader, give, second, and_then, optional, repeat}
+use Rattle.java_reading.specs.Readers.{Reader, give, optional, repeat}
 use Rattle.java_reading.specs.Tokens.{fixed, name_in, next_is}
 use Rattle.java_reading.specs.MemberReading.{package_in, import_in}
 use Rattle.java_reader.specs.Items.{dot_name_in}

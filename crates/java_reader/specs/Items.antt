@@ -1,6 +1,5 @@
 -- The parts that stand in lists, each with what parts it from the one before.
-use Rattle.std.specs.Prelude.{ℕ, Bool, true, false, List, ◌∷◌, Option}
-use Rattle.java_lex.specs.declared.token.Token.{Token}
+use Rattle.std.specs.Prelude.{ℕ, false, List, ◌∷◌}
 use Rattle.java_tree.specs.declared.names.Ident.{Ident}
 use Rattle.java_tree.specs.Trees.{Decl, Param}
 use Rattle.java_reading.specs.declared.marks.Fixed.TheVariants.{Comma, Dot}

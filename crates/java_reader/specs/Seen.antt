@@ -1,5 +1,5 @@
 -- What the code's values are to the definition of reading.
-use Rattle.std.specs.Prelude.{ℕ, Bool, true, false, map}
+use Rattle.std.specs.Prelude.{ℕ, Bool, true, false}
 use Rattle.java_tree.specs.Members.{Written, empty, one_part, fields}
 use Rattle.java_tree.specs.Seen.{part_tree}
 use Rattle.java_reader.specs.declared.clauses.ClauseWord.{ClauseWord}

@@ -145,7 +145,11 @@ fn next_is_class(tokens: &[Token]) -> bool
 }
 
 /// One class or more. Linear in the tokens that are read.
-pub(crate) fn classes(alloc: Global, left: u8, tokens: &[Token]) -> Result<(Vec<ClassTree>, &[Token]), Stop<'_>>
+pub(crate) fn classes(
+    alloc: Global,
+    left: u8,
+    tokens: &[Token],
+) -> Result<(Vec<ClassTree>, &[Token]), Stop<'_>>
     ensures is { Gives (λ v. map class_tree v.items) result (classes_in expression_at arguments_at predicate_at left tokens.now) }
     ensures shorter { IfOk result (λ x. length x.1.now < length tokens.now) }
 {

@@ -9,8 +9,8 @@ ghost use Rattle.java_reader.specs.Seen.{word_seen};
 
 use java_lex::{Terminal, Token};
 use java_reading::{Fixed, fixed};
-use jml_reader::predicate;
 use java_tree::SpecTree;
+use jml_reader::predicate;
 use reading_core::{Stop, first, terminal_at};
 use std::alloc::Global;
 
@@ -56,14 +56,21 @@ fn next_is_clause(tokens: &[Token]) -> bool
 {
     match first(tokens) {
         Some((token, _behind)) => {
-            matches!(terminal_at(token, true), Terminal::Requires | Terminal::Ensures)
+            matches!(
+                terminal_at(token, true),
+                Terminal::Requires | Terminal::Ensures
+            )
         }
         None => false,
     }
 }
 
 /// The clauses up to the first token with which none begins. Linear in the tokens that are read.
-pub(crate) fn clauses(alloc: Global, left: u8, tokens: &[Token]) -> Result<(Vec<SpecTree>, &[Token]), Stop<'_>>
+pub(crate) fn clauses(
+    alloc: Global,
+    left: u8,
+    tokens: &[Token],
+) -> Result<(Vec<SpecTree>, &[Token]), Stop<'_>>
     ensures is { Gives (λ v. map clause_tree v.items) result (clauses_in expression_at arguments_at predicate_at left tokens.now) }
     ensures within { IfOk result (λ x. length x.1.now ≤ length tokens.now) }
 {

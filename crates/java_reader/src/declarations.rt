@@ -44,7 +44,11 @@ fn declaration(alloc: Global, left: u8, tokens: &[Token]) -> Result<(DeclTree, &
 }
 
 /// A declaration behind a comma.
-fn comma_declaration(alloc: Global, left: u8, tokens: &[Token]) -> Result<(DeclTree, &[Token]), Stop<'_>>
+fn comma_declaration(
+    alloc: Global,
+    left: u8,
+    tokens: &[Token],
+) -> Result<(DeclTree, &[Token]), Stop<'_>>
     ensures is { Gives decl_tree result (comma_declaration_in left tokens.now) }
     ensures shorter { IfOk result (λ x. length x.1.now < length tokens.now) }
 {
@@ -53,7 +57,11 @@ fn comma_declaration(alloc: Global, left: u8, tokens: &[Token]) -> Result<(DeclT
 }
 
 /// One declaration or more, parted by commas. Linear in the tokens that are read.
-fn declarations(alloc: Global, left: u8, tokens: &[Token]) -> Result<(Vec<DeclTree>, &[Token]), Stop<'_>>
+fn declarations(
+    alloc: Global,
+    left: u8,
+    tokens: &[Token],
+) -> Result<(Vec<DeclTree>, &[Token]), Stop<'_>>
     ensures is { Gives (λ v. map decl_tree v.items) result (declarations_in expression_at arguments_at left tokens.now) }
     ensures shorter { IfOk result (λ x. length x.1.now < length tokens.now) }
 {
@@ -70,7 +78,11 @@ fn declarations(alloc: Global, left: u8, tokens: &[Token]) -> Result<(Vec<DeclTr
 }
 
 /// The declarations of a statement, and its `;`. Linear in the tokens that are read.
-pub(crate) fn declared(alloc: Global, left: u8, tokens: &[Token]) -> Result<(Vec<DeclTree>, &[Token]), Stop<'_>>
+pub(crate) fn declared(
+    alloc: Global,
+    left: u8,
+    tokens: &[Token],
+) -> Result<(Vec<DeclTree>, &[Token]), Stop<'_>>
     ensures is { Gives (λ v. map decl_tree v.items) result (declared_in expression_at arguments_at left tokens.now) }
     ensures shorter { IfOk result (λ x. length x.1.now < length tokens.now) }
 {
@@ -80,7 +92,11 @@ pub(crate) fn declared(alloc: Global, left: u8, tokens: &[Token]) -> Result<(Vec
 }
 
 /// A declaration of local variables that begins with modifiers or a type. Linear in the tokens that are read.
-pub(crate) fn local(alloc: Global, left: u8, tokens: &[Token]) -> Result<(StmtTree, &[Token]), Stop<'_>>
+pub(crate) fn local(
+    alloc: Global,
+    left: u8,
+    tokens: &[Token],
+) -> Result<(StmtTree, &[Token]), Stop<'_>>
     ensures is { Gives stmt_tree result (local_in expression_at arguments_at left tokens.now) }
     ensures shorter { IfOk result (λ x. length x.1.now < length tokens.now) }
 {

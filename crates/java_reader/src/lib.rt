@@ -10,7 +10,6 @@ mod members;
 mod modifiers;
 mod parameters;
 mod places;
-
 mod source;
 mod statements;
 #[cfg(test)]

@@ -15,8 +15,10 @@ use crate::statements::statements;
 use crate::types::kind;
 use java_lex::{Terminal, Token};
 use java_reading::{Fixed, PartForm, fixed, fixed_at, name, next_is, part_form_at};
+use java_tree::{
+    Ident, Member, MethodTree, ModWord, Modifier, ParamTree, SpecTree, StmtTree, TypeTree,
+};
 use jml_reader::predicate;
-use java_tree::{Ident, Member, MethodTree, ModWord, Modifier, ParamTree, SpecTree, StmtTree, TypeTree};
 use no_memory::NoMemory;
 use reading_core::{Stop, first, terminal_at};
 use std::alloc::Global;
@@ -83,7 +85,11 @@ fn outcome(alloc: Global, tokens: &[Token]) -> Result<(Option<TypeTree>, &[Token
 }
 
 /// The parameters and the body of a method. The levels are counted anew in it.
-fn body(alloc: Global, left: u8, tokens: &[Token]) -> Result<((Vec<ParamTree>, Vec<StmtTree>), &[Token]), Stop<'_>>
+fn body(
+    alloc: Global,
+    left: u8,
+    tokens: &[Token],
+) -> Result<((Vec<ParamTree>, Vec<StmtTree>), &[Token]), Stop<'_>>
     ensures is { Gives (λ x. (map param_tree x.0.items, map stmt_tree x.1.items)) result (body_in expression_at arguments_at predicate_at left tokens.now) }
     ensures shorter { IfOk result (λ x. length x.1.now < length tokens.now) }
 {
@@ -193,7 +199,10 @@ fn named_part(
             method(alloc, left, spec, signature, tokens)
         }
         Some(kind) => {
-            if specified || has_static(mods.as_slice()) || next_is(tokens, false, Fixed::OpenParen) {
+            if specified
+                || has_static(mods.as_slice())
+                || next_is(tokens, false, Fixed::OpenParen)
+            {
                 let signature = Signature {
                     mods,
                     outcome: Some(kind),
@@ -272,7 +281,11 @@ fn visible(alloc: Global, left: u8, tokens: &[Token]) -> Result<(Declared, &[Tok
 }
 
 /// A member of a class. Linear in the tokens that are read.
-pub(crate) fn member(alloc: Global, left: u8, tokens: &[Token]) -> Result<(Declared, &[Token]), Stop<'_>>
+pub(crate) fn member(
+    alloc: Global,
+    left: u8,
+    tokens: &[Token],
+) -> Result<(Declared, &[Token]), Stop<'_>>
     ensures is { Gives declared_seen result (member_in expression_at arguments_at predicate_at left tokens.now) }
     ensures shorter { IfOk result (λ x. length x.1.now < length tokens.now) }
 {

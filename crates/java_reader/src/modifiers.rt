@@ -58,10 +58,8 @@ fn is_of_class(jml: bool, terminal: Terminal) -> bool
 {
     match (jml, terminal) {
         (false, Terminal::Public | Terminal::Final) => true,
-        (
+        (true, Terminal::NullableByDefault | Terminal::NonNullByDefault | Terminal::SpecPublic) =>
             true,
-            Terminal::NullableByDefault | Terminal::NonNullByDefault | Terminal::SpecPublic,
-        ) => true,
         _ => false,
     }
 }
@@ -127,7 +125,11 @@ fn rank(word: ModWord) -> u8
 }
 
 /// Adds those of the modifiers that are this word.
-fn push_of(ordered: &mut Vec<Modifier>, modifiers: &[Modifier], word: ModWord) -> Result<(), NoMemory>
+fn push_of(
+    ordered: &mut Vec<Modifier>,
+    modifiers: &[Modifier],
+    word: ModWord,
+) -> Result<(), NoMemory>
     ensures { OnOk result (ordered.new.items ≡ ordered.old.items ++ filter (λ m. rank_lem m.word == rank_lem word) modifiers.now) }
 {
     for modifier in modifiers {

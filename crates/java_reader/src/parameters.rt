@@ -50,7 +50,10 @@ fn some_parameters(alloc: Global, tokens: &[Token]) -> Result<(Vec<ParamTree>, &
 }
 
 /// The parameters before the `)` of a method. Linear in the tokens that are read.
-pub(crate) fn parameters(alloc: Global, tokens: &[Token]) -> Result<(Vec<ParamTree>, &[Token]), Stop<'_>>
+pub(crate) fn parameters(
+    alloc: Global,
+    tokens: &[Token],
+) -> Result<(Vec<ParamTree>, &[Token]), Stop<'_>>
     ensures is { Gives (λ v. map param_tree v.items) result (parameters_in tokens.now) }
     ensures within { IfOk result (λ x. length x.1.now ≤ length tokens.now) }
 {

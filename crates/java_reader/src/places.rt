@@ -32,11 +32,7 @@ fn assigned(
 }
 
 /// The `;` behind a step.
-fn stepped(
-    target: JavaTree,
-    up: bool,
-    tokens: &[Token],
-) -> Result<(StmtTree, &[Token]), Stop<'_>>
+fn stepped(target: JavaTree, up: bool, tokens: &[Token]) -> Result<(StmtTree, &[Token]), Stop<'_>>
     ensures is { Gives stmt_tree result (give (λ u. step_tree (java_tree target) up) (fixed_lem false FixedSemicolon tokens.now)) }
     ensures shorter { IfOk result (λ x. length x.1.now < length tokens.now) }
 {

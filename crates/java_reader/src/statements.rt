@@ -50,7 +50,12 @@ fn returned(alloc: Global, left: u8, tokens: &[Token]) -> Result<(StmtTree, &[To
 
 /// What stands behind a name with which a statement begins: where another name follows, it is the type of a
 /// declaration, and else it begins an assignment or a call.
-fn behind_name<'a>(alloc: Global, left: u8, token: &Token, tokens: &'a [Token]) -> Result<(StmtTree, &'a [Token]), Stop<'a>>
+fn behind_name<'a>(
+    alloc: Global,
+    left: u8,
+    token: &Token,
+    tokens: &'a [Token],
+) -> Result<(StmtTree, &'a [Token]), Stop<'a>>
     ensures is { Gives stmt_tree result (behind_name_in expression_at arguments_at left (under_at expression_at arguments_at left) token.now tokens.now) }
     ensures shorter { IfOk result (λ x. length x.1.now < length tokens.now) }
 {
@@ -73,7 +78,12 @@ fn choice(alloc: Global, condition: JavaTree, chosen: StmtTree) -> Result<StmtTr
 }
 
 /// An `if` with `else`.
-fn choice_of_two(alloc: Global, condition: JavaTree, chosen: StmtTree, other: StmtTree) -> Result<StmtTree, NoMemory>
+fn choice_of_two(
+    alloc: Global,
+    condition: JavaTree,
+    chosen: StmtTree,
+    other: StmtTree,
+) -> Result<StmtTree, NoMemory>
     ensures { IfOk result (λ s. stmt_tree s ≡ if_else (java_tree condition) (stmt_tree chosen) (stmt_tree other)) }
 {
     let chosen = Box::new(alloc, chosen)?;
@@ -82,7 +92,12 @@ fn choice_of_two(alloc: Global, condition: JavaTree, chosen: StmtTree, other: St
 }
 
 /// A `while` at this place.
-fn repetition(alloc: Global, at: u32, condition: JavaTree, repeated: StmtTree) -> Result<StmtTree, NoMemory>
+fn repetition(
+    alloc: Global,
+    at: u32,
+    condition: JavaTree,
+    repeated: StmtTree,
+) -> Result<StmtTree, NoMemory>
     ensures { IfOk result (λ s. stmt_tree s ≡ loops at (java_tree condition) (stmt_tree repeated)) }
 {
     let repeated = Box::new(alloc, repeated)?;
@@ -109,7 +124,11 @@ fn next_is_statement(tokens: &[Token]) -> bool
 /// A statement, where so many levels may be opened in it. Linear in the tokens that are read. (Java Language
 /// Specification, "Blocks, Statements, and Patterns".)
 #[cycle(statements)]
-pub(crate) fn statement(alloc: Global, left: u8, tokens: &[Token]) -> Result<(StmtTree, &[Token]), Stop<'_>>
+pub(crate) fn statement(
+    alloc: Global,
+    left: u8,
+    tokens: &[Token],
+) -> Result<(StmtTree, &[Token]), Stop<'_>>
     ensures is { Gives stmt_tree result (statement_at expression_at arguments_at left tokens.now) }
     ensures shorter { IfOk result (λ x. length x.1.now < length tokens.now) }
 {
@@ -137,7 +156,11 @@ pub(crate) fn statement(alloc: Global, left: u8, tokens: &[Token]) -> Result<(St
 
 /// The statements up to the first token with which none begins. Linear in the tokens that are read.
 #[cycle(statements)]
-pub(crate) fn statements(alloc: Global, left: u8, tokens: &[Token]) -> Result<(Vec<StmtTree>, &[Token]), Stop<'_>>
+pub(crate) fn statements(
+    alloc: Global,
+    left: u8,
+    tokens: &[Token],
+) -> Result<(Vec<StmtTree>, &[Token]), Stop<'_>>
     ensures is { Gives (λ v. map stmt_tree v.items) result (statements_in expression_at arguments_at left tokens.now) }
     ensures within { IfOk result (λ x. length x.1.now ≤ length tokens.now) }
 {
@@ -168,7 +191,12 @@ fn block(alloc: Global, left: u8, tokens: &[Token]) -> Result<(StmtTree, &[Token
 
 /// The condition and the statement behind an `if` or a `while`, which opens a level. `tokens` begin with that word.
 #[cycle(statements)]
-fn headed<'a>(alloc: Global, left: u8, tokens: &'a [Token], behind: &'a [Token]) -> Result<((JavaTree, StmtTree), &'a [Token]), Stop<'a>>
+fn headed<'a>(
+    alloc: Global,
+    left: u8,
+    tokens: &'a [Token],
+    behind: &'a [Token],
+) -> Result<((JavaTree, StmtTree), &'a [Token]), Stop<'a>>
     ensures is { Gives (λ x. (java_tree x.0, stmt_tree x.1)) result (headed_at left tokens.now behind.now) }
     ensures shorter { IfOk result (λ x. length x.1.now < length behind.now) }
 {

@@ -22,7 +22,11 @@ fn unit(alloc: Global, left: u8, tokens: &[Token]) -> Result<(Vec<ClassTree>, &[
 }
 
 /// A whole text, where so many levels may be open at once. Linear in the tokens that are read.
-pub(crate) fn whole_text(alloc: Global, left: u8, tokens: &[Token]) -> Result<(Tree, &[Token]), Stop<'_>>
+pub(crate) fn whole_text(
+    alloc: Global,
+    left: u8,
+    tokens: &[Token],
+) -> Result<(Tree, &[Token]), Stop<'_>>
     ensures { Gives classes_tree result (text_in expression_at arguments_at predicate_at left tokens.now) }
 {
     let (classes, rest) = unit(alloc, left, tokens)?;

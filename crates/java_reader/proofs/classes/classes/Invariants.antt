@@ -1,4 +1,4 @@
-use Rattle.std.proofs.Common.{◌<◌, Bool, true, false, length, map}
+use Rattle.std.proofs.Common.{◌<◌, length, map}
 use Rattle.java_tree.specs.Seen.{class_tree}
 use Rattle.java_reading.specs.MemberReading.{begins_class, class_in, classes_in}
 use Rattle.text_reading.specs.Readers.{expression_at, arguments_at, predicate_at}

@@ -1,4 +1,4 @@
-use Rattle.std.proofs.Common.{◌≡◌, ◌≤◌, length, map}
+use Rattle.std.proofs.Common.{◌≤◌, length, map}
 use Rattle.java_tree.specs.Seen.{part_tree}
 use Rattle.java_reading.specs.PartForms.{begins_part}
 use Rattle.java_reading.specs.MemberReading.{member_in, members_in}

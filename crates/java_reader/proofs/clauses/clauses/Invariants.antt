@@ -1,4 +1,4 @@
-use Rattle.std.proofs.Common.{◌≤◌, Bool, true, false, length, map}
+use Rattle.std.proofs.Common.{◌≤◌, true, length, map}
 use Rattle.java_tree.specs.Seen.{clause_tree}
 use Rattle.java_reading.specs.Tokens.{at_head}
 use Rattle.java_reading.specs.MemberReading.{clause_in, clauses_in, is_clause}

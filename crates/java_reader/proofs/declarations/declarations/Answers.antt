@@ -1,4 +1,4 @@
-use Rattle.std.proofs.Common.{rules, ◌≡◌, ◌<◌, ◌≤◌, List, [], length, map, sym, ◌∙◌, arith, Vec, Global}
+use Rattle.std.proofs.Common.{rules, ◌≡◌, [], map, sym, ◌∙◌, arith, Vec, Global}
 use Rattle.std.specs.Prelude.{Err}
 use Rattle.java_tree.specs.declared.statements.DeclTree.{DeclTree}
 use Rattle.java_tree.specs.Seen.{decl_tree}

@@ -1,4 +1,4 @@
-use Rattle.std.proofs.Common.{◌<◌, Bool, true, false, length, map}
+use Rattle.std.proofs.Common.{◌<◌, false, length, map}
 use Rattle.java_tree.specs.Seen.{decl_tree}
 use Rattle.java_reading.specs.declared.marks.Fixed.TheVariants.{Comma}
 use Rattle.java_reading.specs.Tokens.{next_is}

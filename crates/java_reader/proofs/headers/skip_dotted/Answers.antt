@@ -1,4 +1,4 @@
-use Rattle.std.proofs.Common.{rules, ◌≡◌, ◌<◌, length, false, sym, ◌∙◌, arith}
+use Rattle.std.proofs.Common.{rules, ◌≡◌, false, sym, ◌∙◌, arith}
 use Rattle.std.specs.Prelude.{Err}
 use Rattle.java_reading.specs.Tokens.{name_in}
 use Rattle.java_reader.proofs.Passing.{first_passed_stops, passing_behind, passing_more, passing_end, passing_stops}

@@ -1,4 +1,4 @@
-use Rattle.std.proofs.Common.{rules, ◌≡◌, ◌≤◌, length, false, sym, ◌∙◌, arith}
+use Rattle.std.proofs.Common.{rules, ◌≡◌, false, sym, ◌∙◌, arith}
 use Rattle.std.specs.Prelude.{Err}
 use Rattle.java_reading.specs.declared.marks.Fixed.TheVariants.{Semicolon}
 use Rattle.java_reading.specs.Tokens.{fixed}
@@ -21,8 +21,8 @@ returns-in_err-rest-clause-is c =
 pub parts-preserved : goal.parts-preserved
 parts-preserved c = record {
   reads =
-    leads_more c.args.tokens.now c.parts.rest.now c.parts.invariant.reads _ _ (sym c.next_is.ensures ∙ c.parts-test.true) c.in_ok-behind.ensures.is (sym c.next_is-in-parts.ensures ∙ c.if-next_is.false) c.in_ok-rest.ensures.is
-    (omega (arith, c.in_ok-behind.ensures.shorter, c.in_ok-rest.ensures.shorter));
+      leads_more c.args.tokens.now c.parts.rest.now c.parts.invariant.reads _ _ (sym c.next_is.ensures ∙ c.parts-test.true) c.in_ok-behind.ensures.is (sym c.next_is-in-parts.ensures ∙ c.if-next_is.false) c.in_ok-rest.ensures.is
+      (omega (arith, c.in_ok-behind.ensures.shorter, c.in_ok-rest.ensures.shorter));
   within = omega (arith, c.in_ok-behind.ensures.shorter, c.in_ok-rest.ensures.shorter, c.parts.invariant.within);
 }
 

@@ -1,5 +1,4 @@
-use Rattle.std.proofs.Common.{◌≡◌, ℕ, suc, ◌<◌, ◌≤◌, length}
-use Rattle.java_reading.specs.MemberReading.{import_tail_by}
+use Rattle.std.proofs.Common.{◌≤◌, length}
 use Rattle.java_reader.proofs.ImportTails.{Leads}
 use Rattle.java_reader.proofs.headers.skip_import_tail.Given as goal
 

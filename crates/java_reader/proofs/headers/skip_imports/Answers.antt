@@ -1,4 +1,4 @@
-use Rattle.std.proofs.Common.{rules, ◌≡◌, ◌≤◌, length, sym, ◌∙◌, arith}
+use Rattle.std.proofs.Common.{rules, ◌≡◌, sym, ◌∙◌, arith}
 use Rattle.std.specs.Prelude.{Err}
 use Rattle.java_reading.specs.MemberReading.{import_in}
 use Rattle.java_reader.specs.Headers.{passed}

@@ -1,8 +1,8 @@
-use Rattle.std.proofs.Common.{◌≡◌, List, map, ap, ◌∙◌}
-use Rattle.java_tree.specs.Trees.{Method, method, Param, Stmt, Stmts}
+use Rattle.std.proofs.Common.{List, map, ap, ◌∙◌}
+use Rattle.java_tree.specs.Trees.{method, Param, Stmt, Stmts}
 use Rattle.java_tree.specs.Members.{Written, one_part}
-use Rattle.java_tree.specs.Seen.{clause_tree, param_tree, stmt_tree}
-use Rattle.reading_core.specs.Read.{Read, Got}
+use Rattle.java_tree.specs.Seen.{clause_tree, param_tree}
+use Rattle.reading_core.specs.Read.{Got}
 use Rattle.java_reading.specs.Readers.{give}
 use Rattle.java_reading.specs.StatementReading.{stmts_of}
 use Rattle.java_reader.proofs.CodeLemmas.{list_stmts}

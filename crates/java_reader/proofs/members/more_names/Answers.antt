@@ -1,4 +1,4 @@
-use Rattle.std.proofs.Common.{rules, ◌≡◌, ◌<◌, ◌≤◌, List, [], length, map, sym, ◌∙◌, arith, Vec, Global}
+use Rattle.std.proofs.Common.{rules, ◌≡◌, sym, ◌∙◌, arith, Vec, Global}
 use Rattle.std.specs.Prelude.{Err}
 use Rattle.java_tree.specs.declared.names.Ident.{Ident}
 use Rattle.java_reader.proofs.Loops.{so_far_start, so_far_more, so_far_end, so_far_stops}

@@ -1,4 +1,4 @@
-use Rattle.std.proofs.Common.{◌≤◌, Bool, true, false, length, map}
+use Rattle.std.proofs.Common.{◌≤◌, false, length}
 use Rattle.java_reading.specs.declared.marks.Fixed.TheVariants.{Comma}
 use Rattle.java_reading.specs.Tokens.{next_is}
 use Rattle.java_reader.specs.Items.{comma_name_in, more_names_in}

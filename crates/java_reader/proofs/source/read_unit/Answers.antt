@@ -6,8 +6,8 @@ use Rattle.java_tree.specs.declared.members.Tree.{Tree}
 use Rattle.text_reading.specs.Readers.{text_at}
 use Rattle.java_reader.specs.declared.fault.SourceFault.{SourceFault}
 use Rattle.java_reader.specs.declared.fault.SourceFault.TheVariants.{BadToken}
-use Rattle.java_reader.specs.Source.{Answers, Fails, Is, of_lexer}
-use Rattle.java_reader.proofs.Answered.{gives_bad, gives_deep, lexer_answers, lexer_is, lexer_fails, cut_fails, read_answers, wrong_answers, deep_answers, read_is, wrong_is, deep_is, memory_is}
+use Rattle.java_reader.specs.Source.{Fails, Is, of_lexer}
+use Rattle.java_reader.proofs.Answered.{gives_bad, gives_deep, lexer_is, lexer_fails, cut_fails, read_answers, wrong_answers, deep_answers, read_is, wrong_is, deep_is, memory_is}
 use Rattle.java_reader.proofs.source.read_unit.Goals as goal
 
 pub returns-in_err-tokens-clause-judged : goal.returns-in_err-tokens-clause-judged

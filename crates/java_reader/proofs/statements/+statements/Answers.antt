@@ -1,7 +1,6 @@
-use Rattle.std.proofs.Common.{rules, ◌≡◌, ◌≤◌, List, [], ◌∷◌, length, map, sym, ap, ◌∙◌, subst, arith, Vec, Global}
+use Rattle.std.proofs.Common.{rules, ◌≡◌, List, [], sym, ap, ◌∙◌, subst, arith}
 use Rattle.std.specs.Prelude.{Err}
 use Rattle.java_lex.specs.declared.token.Token.{Token}
-use Rattle.java_tree.specs.declared.statements.StmtTree.{StmtTree}
 use Rattle.java_tree.specs.Trees.{Stmt, if_else}
 use Rattle.java_tree.specs.Seen.{java_tree, stmt_tree}
 use Rattle.reading_core.specs.Read.{Read, Got, Bad}
@@ -93,8 +92,8 @@ statements-more-init t c = record { reads = so_far_start _ _ _ _ (search rules);
 pub statements-more-preserved : goal.statements-more-preserved
 statements-more-preserved t c = record {
   reads =
-    so_far_more c.more.invariant.reads _ (stmt_tree c.in_ok-next.next) _ (sym c.next_is_statement.ensures ∙ c.more-test.true) c.in_ok-next.ensures.is c.in_ok-next.ensures.shorter
-    (seen_more stmt_tree _ _ c.in_ok-next.next c.in_ok-push.ensures.items);
+      so_far_more c.more.invariant.reads _ (stmt_tree c.in_ok-next.next) _ (sym c.next_is_statement.ensures ∙ c.more-test.true) c.in_ok-next.ensures.is c.in_ok-next.ensures.shorter
+      (seen_more stmt_tree _ _ c.in_ok-next.next c.in_ok-push.ensures.items);
   within = omega (arith, c.in_ok-next.ensures.shorter, c.more.invariant.within);
 }
 

@@ -30,7 +30,7 @@ decreases-alternative l = 4 * l.left
 abbrev pub invariant-statements-more : goal.invariant-statements-more
 invariant-statements-more l = record {
   reads : SoFar begins_statement (statement_at expression_at arguments_at l.left) (statements_in expression_at arguments_at l.left l.fn.tokens) (map stmt_tree l.statements.items) l.rest;
-  within : length l.rest ≤ length l.fn.tokens
+  within : length l.rest ≤ length l.fn.tokens;
 }
 
 abbrev pub decreases-statements-more : goal.decreases-statements-more

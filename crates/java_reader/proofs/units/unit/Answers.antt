@@ -1,4 +1,4 @@
-use Rattle.std.proofs.Common.{rules, ◌≡◌, List, map, sym, subst, Vec, Global}
+use Rattle.std.proofs.Common.{rules, ◌≡◌, map, sym, subst, Vec, Global}
 use Rattle.std.specs.Prelude.{Err}
 use Rattle.java_tree.specs.declared.members.ClassTree.{ClassTree}
 use Rattle.java_tree.specs.Trees.{Classes}
