@@ -140,7 +140,7 @@ pub(crate) fn for_all(alloc: Global, at: u32, name: &[u8], body: Made<JmlTree>) 
 /// `\reach(a, A, a + FIELD).has(null)`
 pub(crate) fn reaches(alloc: Global, at: u32, field: &[u8], field_at: u32) -> Made<JmlTree> {
     let root = Box::new(alloc, jml_name(alloc, b"a", at.saturating_add(1))?)?;
-    let asked = Box::new(alloc, jml(field_at + 1, JmlNode::Null)?)?;
+    let asked = Box::new(alloc, jml(field_at.saturating_add(1), JmlNode::Null)?)?;
     let class = ident(alloc, b"A", at.saturating_add(2))?;
     let link = ident(alloc, b"a", at.saturating_add(3));
     let fields = and(one(alloc, link), ident(alloc, field, field_at))?;
