@@ -132,17 +132,17 @@ pub(crate) fn old(alloc: Global, at: u32, inner: Made<JmlTree>) -> Made<JmlTree>
 /// `(\forall A NAME; BODY)`
 pub(crate) fn for_all(alloc: Global, at: u32, name: &[u8], body: Made<JmlTree>) -> Made<JmlTree> {
     let body = Box::new(alloc, body?)?;
-    let kind = ident(alloc, b"A", at + 1)?;
-    let name = ident(alloc, name, at + 2)?;
+    let kind = ident(alloc, b"A", at.saturating_add(1))?;
+    let name = ident(alloc, name, at.saturating_add(2))?;
     jml(at, JmlNode::Quant(true, kind, name, None, body))
 }
 
 /// `\reach(a, A, a + FIELD).has(null)`
 pub(crate) fn reaches(alloc: Global, at: u32, field: &[u8], field_at: u32) -> Made<JmlTree> {
-    let root = Box::new(alloc, jml_name(alloc, b"a", at + 1)?)?;
-    let asked = Box::new(alloc, jml(field_at + 1, JmlNode::Null)?)?;
-    let class = ident(alloc, b"A", at + 2)?;
-    let link = ident(alloc, b"a", at + 3);
+    let root = Box::new(alloc, jml_name(alloc, b"a", at.saturating_add(1))?)?;
+    let asked = Box::new(alloc, jml(field_at.saturating_add(1), JmlNode::Null)?)?;
+    let class = ident(alloc, b"A", at.saturating_add(2))?;
+    let link = ident(alloc, b"a", at.saturating_add(3));
     let fields = and(one(alloc, link), ident(alloc, field, field_at))?;
     let reach = ReachTree {
         root,
