@@ -6,6 +6,6 @@ mod fields;
 mod numbers;
 mod operators;
 
-pub use fields::{field, read};
+pub use fields::{field, grow, read, write};
 pub use numbers::{flag, negative, number, zero_of};
 pub use operators::{operated, opposite};
