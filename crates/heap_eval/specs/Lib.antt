@@ -1,0 +1,3 @@
+pub mod Environs
+pub mod Joined
+pub mod Stages
