@@ -1,6 +1,6 @@
 -- One instance of a quantifier with a range.
-use Rattle.std.proofs.Common.{◌≡◌, ℕ, Option, Some, refl}
-use Rattle.std.specs.Prelude.{Bool, true, false, option_map}
+use Rattle.std.proofs.Common.{◌≡◌, ℕ, Some, refl}
+use Rattle.std.specs.Prelude.{Bool, true, false}
 use Rattle.taco_unit.specs.declared.expr.Op.{Op}
 use Rattle.taco_unit.specs.declared.expr.Expr.{Expr}
 use Rattle.taco_unit.specs.declared.expr.Quant.{Quant, out-Quant}

@@ -1,9 +1,9 @@
 -- A visit of the objects of a `\reach`: what coming upon values changes, and what is done at its end.
-use Rattle.std.proofs.Common.{◌≡◌, ◌⊎◌, ◌↔◌, ℕ, zero, suc, ◌+◌, ◌<◌, ◌≤◌, Bool, true, false, not, ◌||◌, List, [], ◌∷◌, length, refl, sym, ◌∙◌, subst, ap, inl, inr, arith}
+use Rattle.std.proofs.Common.{◌≡◌, ◌⊎◌, ℕ, ◌+◌, ◌<◌, ◌≤◌, Bool, true, false, not, ◌||◌, List, [], ◌∷◌, length, refl, sym, ◌∙◌, subst, inl, inr, arith}
 use Rattle.std.specs.Prelude.{slice_set, count_by, pos}
 use Rattle.std.specs.List.{range_with_len}
 use Rattle.std.proofs.lemmas.Grind.{common_steps}
-use Rattle.std.proofs.lemmas.Bool.{false≢true, or_cases, cases_Bool, not-true}
+use Rattle.std.proofs.lemmas.Bool.{false≢true, or_cases, not-true}
 use Rattle.std.proofs.lemmas.List.Sums.{sum_by-set}
 use Rattle.taco_unit.specs.declared.unit.ClassDef.{ClassDef}
 use Rattle.heap_core.specs.declared.value.Value.{Value}

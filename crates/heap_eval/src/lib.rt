@@ -8,3 +8,6 @@ mod walk;
 
 pub use environment::Environment;
 pub use walk::evaluate;
+
+#[cfg(test)]
+mod tests;

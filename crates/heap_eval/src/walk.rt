@@ -105,7 +105,15 @@ fn quantified(alloc: Global, env: Environment<'_>, quant: &Quant) -> Result<Seen
     Ok(outcome)
 }
 
-/// What a clause evaluates to.
+/// What a clause evaluates to in heaps within the scope: a value, `Bad` where null is read through,
+/// `Out` where a number leaves its width. Operands are evaluated from left to right, and the first
+/// that is `Bad` or `Out` decides; `&&`, `||` and `==>` evaluate their right one only where the left
+/// one leaves it to decide.
+///
+/// It calls itself for the parts of the clause, which in a text that was read has at most 64 levels
+/// of nesting. The cost is linear in the clause, times the scope's objects for each quantifier around
+/// a part; a `\reach` goes once through the fields of each object that it holds. Memory is taken for
+/// the variables of quantifiers alone.
 #[cycle(walk)]
 pub fn evaluate(alloc: Global, env: Environment<'_>, expr: &Expr) -> Result<Seen, NoMemory>
     requires { IsWithin (env_of env) }

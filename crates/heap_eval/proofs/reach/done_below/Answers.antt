@@ -1,4 +1,4 @@
-use Rattle.std.proofs.Common.{◌≡◌, ℕ, true, false, cond, arith, cond, refl}
+use Rattle.std.proofs.Common.{◌≡◌, true, false, arith}
 use Rattle.heap_eval.specs.Stages.{is_done, stage_of}
 use Rattle.heap_eval.proofs.Ranges.{counted, passed}
 use Rattle.heap_eval.proofs.reach.done_below.Goals as goal

@@ -4,7 +4,7 @@ use Rattle.std.specs.List.{range_with_len}
 use Rattle.heap_core.specs.declared.problem.Scope.{Scope}
 use Rattle.heap_core.specs.Posed.{Posed}
 use Rattle.heap_core.specs.Outcomes.{number}
-use Rattle.heap_core.specs.Eval.{reached, size}
+use Rattle.heap_core.specs.Eval.{reached}
 use Rattle.heap_eval.specs.Environs.{env_of}
 use Rattle.heap_eval.specs.Stages.{is_done, stage_of}
 use Rattle.heap_eval.proofs.Ranges.{count_same}

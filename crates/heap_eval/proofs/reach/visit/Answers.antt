@@ -1,4 +1,4 @@
-use Rattle.std.proofs.Common.{◌≡◌, ◌<◌, ◌≤◌, length, subst, ap, sym, ◌∙◌, arith, slice_set}
+use Rattle.std.proofs.Common.{◌≡◌, ◌<◌, ◌≤◌, length, subst, ap, ◌∙◌, arith, slice_set}
 use Rattle.heap_core.specs.Posed.{Posed}
 use Rattle.heap_core.specs.declared.value.Seen.TheVariants.{Is}
 use Rattle.heap_eval.specs.declared.reach.Stage.TheVariants.{Done}
