@@ -1,0 +1,5 @@
+pub mod Instances
+pub mod Closed
+pub mod Ranges
+pub mod Visiting
+pub mod Row

@@ -1,0 +1,4 @@
+pub mod Environs
+pub mod Joined
+pub mod Stages
+pub mod Row

@@ -1,0 +1,129 @@
+ghost use Rattle.std.specs.Prelude.{◌≡◌, ◌==◌, Some, None, IfOk, length, map, nat_lt, position, slice_get, slice_set, option_and_then, if◌then◌else◌};
+ghost use Rattle.heap_core.specs.Heap.{field as field_lem, cell, place_of as place_of_lem, put, first_value as first_value_lem, grown};
+
+use crate::numbers::zero_of;
+use heap_core::{Object, Problem, Seen, Value};
+use no_memory::NoMemory;
+use sqlite_items::{Items, at};
+use std::alloc::Global;
+use taco_unit::{ClassDef, FieldDef, Unit};
+
+/// The value of a field of the object of this number, where the heap has the object and its class
+/// declares the field. Linear in the class's fields. Takes no memory.
+pub fn read(unit: &Unit, heap: &[Object], field: u8, object: u8) -> Option<Value>
+    ensures { result ≡ option_and_then (cell unit.now.classes field) (slice_get heap.now object) }
+{
+    match at(heap, usize::from(object)) {
+        Some(x) => x.cell(unit, field),
+        None => None,
+    }
+}
+
+/// `value.field` in a clause: `Bad` where the value is null or an object that the heap lacks. `Out`
+/// where it is no object, and where the object's class does not declare the field. Linear in the
+/// class's fields. Takes no memory.
+pub fn field(unit: &Unit, heap: &[Object], field: u8, value: Value) -> Seen
+    ensures { result ≡ field_lem unit.now.classes heap.now field value }
+{
+    match value {
+        Value::Null => Seen::Bad,
+        Value::Obj(object) => match at(heap, usize::from(object)) {
+            Some(x) => match x.cell(unit, field) {
+                Some(held) => Seen::Is(held),
+                None => Seen::Out,
+            },
+            None => Seen::Bad,
+        },
+        _ => Seen::Out,
+    }
+}
+
+/// The place of a field among those of a class.
+fn place_in(fields: &[u8], field: u8) -> Option<usize>
+    ensures { result ≡ position (λ g. g == field) fields.now }
+{
+    fields.iter().position(|g| *g == field)
+}
+
+/// The place of a field among the cells of the objects of a class.
+fn place_of(classes: &[ClassDef], class: u8, field: u8) -> Option<usize>
+    ensures { result ≡ place_of_lem classes.now class field }
+{
+    match at(classes, usize::from(class)) {
+        Some(d) => place_in(d.fields.as_slice(), field),
+        None => None,
+    }
+}
+
+/// Sets the cell of this place, and says whether the object has it.
+fn set_cell(object: &mut Object, place: usize, value: Value) -> bool
+    ensures object { object.new ≡ record object.old { cells = slice_set object.old.cells place value } }
+    ensures there { result ≡ nat_lt place (length object.old.cells) }
+{
+    let there = place < object.cells.len();
+    if there {
+        object.cells.set(place, value);
+    }
+    there
+}
+
+/// Sets a field of the object of this number in place, and says whether the heap has the object and
+/// the object the field. Linear in the class's fields. Takes no memory.
+pub fn write(unit: &Unit, heap: &mut Vec<Object>, field: u8, object: u8, value: Value) -> bool
+    ensures { put unit.now.classes heap.old.items field object value ≡ (if result then Some heap.new.items else None) }
+{
+    let object = usize::from(object);
+    if object < heap.len() {
+        let held = &mut heap[object];
+        match place_of(unit.classes.as_slice(), held.class, field) {
+            Some(place) => set_cell(held, place, value),
+            None => false,
+        }
+    } else {
+        false
+    }
+}
+
+/// The value with which a field of this number begins.
+fn first_value(fields: &[FieldDef], field: u8) -> Value
+    ensures { result ≡ first_value_lem fields.now field }
+{
+    match at(fields, usize::from(field)) {
+        Some(d) => zero_of(d.kind),
+        None => Value::Null,
+    }
+}
+
+/// The values with which these fields begin.
+fn first_values(alloc: Global, fields: &[FieldDef], listed: &[u8]) -> Result<Items<Value>, NoMemory>
+    ensures { IfOk result (λ cells. cells ≡ map (first_value_lem fields.now) listed.now) }
+{
+    let mut cells = Items::new(alloc);
+    for field in listed {
+        cells.push(first_value(fields, *field))?;
+    }
+    Ok(cells)
+}
+
+/// Adds a new object of the class, which has the next number, and says whether the unit has the class
+/// and the heap has room for it. Linear in the class's fields.
+pub fn grow(
+    alloc: Global,
+    problem: &Problem,
+    heap: &mut Vec<Object>,
+    class: u8,
+) -> Result<bool, NoMemory>
+    ensures { IfOk result (λ done. grown problem.now heap.old.items class ≡ (if done then Some heap.new.items else None)) }
+{
+    if heap.len() >= usize::from(problem.scope.objects) {
+        return Ok(false);
+    }
+    match at(problem.unit.classes.as_slice(), usize::from(class)) {
+        Some(d) => {
+            let cells = first_values(alloc, problem.unit.fields.as_slice(), d.fields.as_slice())?;
+            heap.push(Object { class, cells })?;
+            Ok(true)
+        }
+        None => Ok(false),
+    }
+}
