@@ -1,0 +1,4 @@
+pub mod Onward
+pub mod Cost
+pub mod Tasks
+pub mod Machines
