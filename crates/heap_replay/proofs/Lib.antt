@@ -1,1 +1,6 @@
 pub mod Keeping
+pub mod Ends
+pub mod Costs
+pub mod CodeSteps
+pub mod StmtSteps
+pub mod CallSteps
