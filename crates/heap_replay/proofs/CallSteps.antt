@@ -1,9 +1,10 @@
 -- One step of a call.
-use Rattle.std.proofs.Common.{◌≡◌, ℕ, zero, suc, ◌+◌, ◌*◌, ◌-◌, ◌<◌, ◌≤◌, Bool, true, false, List, [], ◌∷◌, ◌++◌, Option, Some, None, Bor, refl, ap, sym, subst, ◌∙◌, arith}
+use Rattle.std.proofs.Common.{◌≡◌, ℕ, zero, suc, ◌+◌, ◌*◌, ◌-◌, ◌<◌, ◌≤◌, Bool, true, false, List, [], ◌∷◌, ◌++◌, Option, Some, None, Bor, length, get_or, take, drop, refl, ap, sym, subst, ◌∙◌, arith}
 use Rattle.std.specs.Prelude.{ℤ, pos, map, sum_by, slice_get, option_map, if◌then◌else◌}
 use Rattle.std.specs.Option.{option_map_or}
 use Rattle.std.proofs.lemmas.List.Sums.{sum_by-cons, get_or-le-sum_by}
 use Rattle.std.proofs.lemmas.Option.{slice_get_within, get_or_from_slice_get}
+use Rattle.std.proofs.lemmas.Grind.{common_steps}
 use Rattle.taco_unit.specs.declared.expr.Op.{Op}
 use Rattle.taco_unit.specs.declared.expr.Expr.{Expr}
 use Rattle.taco_unit.specs.declared.expr.Expr.TheVariants as e
@@ -34,10 +35,14 @@ use Rattle.heap_replay.proofs.Ends.{then_then, combined_then, target_then, argum
 use Rattle.heap_replay.proofs.Costs.{cost_num, cost_flag, cost_null, cost_this, cost_local, cost_read, cost_neg, cost_not, cost_bin, cost_new, cost_call, cost_result, cost_bound, cost_quant, cost_old, cost_has, cost_size, cost_form, cost_block, cost_set, cost_write, cost_step_local, cost_step_field, cost_if, cost_while, cost_return, cost_return_none, cost_run}
 
 part_le : {X : Type 0} (f : X → ℕ) (xs : List X) (i : ℕ) (x : X) → slice_get xs i ≡ Some x → f x ≤ sum_by f xs
-part_le f xs i x is =
+part_le {X = X} f xs i x is =
     let le = get_or-le-sum_by f xs i x (slice_get_within xs i x is) in
     let P : X → Type 0 = λ z. f z ≤ sum_by f xs in
     subst P (get_or_from_slice_get xs i x x is) le
+
+-- a list by its first item and the others
+pub first_and_rest : {X : Type 0} (xs : List X) (a : X) → 1 ≤ length xs → a ≡ get_or xs 0 a → xs ≡ a ∷ take (length xs - 1) (drop 1 xs)
+first_and_rest xs a h is = grind (arith, common_steps)
 
 rest_more : (call : ℕ) (a : Expr) (rest : List Expr) → cost_of_rest call (a ∷ rest) ≡ cost_of_code call a + cost_of_rest call rest
 unfolding cost_of_rest
@@ -47,14 +52,14 @@ pub target_at : (p : Posed) (m n : Machine) (t : Task) (c : Call) (a : Expr) (wa
 target_at p m n t c a wanted is k =
     keeps_from p _ _ _ _ n t k
     (sym (ap (λ z. then_with z (given_back (on_from p m) m.frame wanted)) (call_form p (calls p m.frame.left) c (frame_of m.frame) (memory m) ∙ ap (λ z. then_with (target_of (option_map (coded p m.frame) z) (frame_of m.frame) (memory m)) (λ this n. then_with (in_order (map (coded p m.frame) (out-Call c).args) (frame_of m.frame) n) (λ vs l. entered (calls p m.frame.left) (out-Call c).method this vs l))) is)
-        ∙ target_then (coded p m.frame a (frame_of m.frame) (memory m)) (in_order (map (coded p m.frame) (out-Call c).args) (frame_of m.frame)) (entered (calls p m.frame.left) (out-Call c).method) (given_back (on_from p m) m.frame wanted)))
+    ∙ target_then (coded p m.frame a (frame_of m.frame) (memory m)) (in_order (map (coded p m.frame) (out-Call c).args) (frame_of m.frame)) (entered (calls p m.frame.left) (out-Call c).method) (given_back (on_from p m) m.frame wanted)))
     (let q = cost_form (call_cost p m.frame.left) c ∙ ap (λ z. option_map_or (cost_of_code (call_cost p m.frame.left)) z 0 + cost_of_rest (call_cost p m.frame.left) (out-Call c).args + (call_cost p m.frame.left) + 2) is in omega arith)
 
 pub static_at : (p : Posed) (m n : Machine) (t : Task) (c : Call) (wanted : Bool) → (out-Call c).target ≡ None → Argued p m (out-Call c).method None [] (out-Call c).args wanted n t → Called p m c wanted n t
 static_at p m n t c wanted is k =
     keeps_from p _ _ _ _ n t k
     (sym (ap (λ z. then_with z (given_back (on_from p m) m.frame wanted)) (call_form p (calls p m.frame.left) c (frame_of m.frame) (memory m) ∙ ap (λ z. then_with (target_of (option_map (coded p m.frame) z) (frame_of m.frame) (memory m)) (λ this n. then_with (in_order (map (coded p m.frame) (out-Call c).args) (frame_of m.frame) n) (λ vs l. entered (calls p m.frame.left) (out-Call c).method this vs l))) is)
-        ∙ then_then (in_order (map (coded p m.frame) (out-Call c).args) (frame_of m.frame) (memory m)) (λ vs l. entered (calls p m.frame.left) (out-Call c).method None vs l) (given_back (on_from p m) m.frame wanted)))
+    ∙ then_then (in_order (map (coded p m.frame) (out-Call c).args) (frame_of m.frame) (memory m)) (λ vs l. entered (calls p m.frame.left) (out-Call c).method None vs l) (given_back (on_from p m) m.frame wanted)))
     (let q = cost_form (call_cost p m.frame.left) c ∙ ap (λ z. option_map_or (cost_of_code (call_cost p m.frame.left)) z 0 + cost_of_rest (call_cost p m.frame.left) (out-Call c).args + (call_cost p m.frame.left) + 2) is in omega arith)
 
 pub argument_at : (p : Posed) (m n : Machine) (t : Task) (method : ℕ) (target : Option Value) (front : List Value) (xs : List Expr) (a : Expr) (rest : List Expr) (wanted : Bool) → xs ≡ a ∷ rest → Keeps p (then_with (coded p m.frame a (frame_of m.frame) (memory m)) (λ v l. arguments p (on_from p m) m.frame method target (front ++ v ∷ []) rest wanted l)) (suc (cost_of_code (call_cost p m.frame.left) a + (cost_of_rest (call_cost p m.frame.left) rest + (call_cost p m.frame.left) + 1 + waiting p m))) n t → Argued p m method target front xs wanted n t
@@ -87,7 +92,7 @@ pub begun_at : (m : Machine) (d : MethodDef) (this : Value) (args : List Value) 
 begun_at m d this args wanted locals fr ws body eb el ef ew p =
     rw (ew, ef, el) (record {
       same =
-        rw (onward_more p m.waits (w.Caller m.frame (otherwise_of d) wanted), eb)
-        (exits_called p (all_onward p m.waits) m.frame d wanted (record { this = this; locals = args ++ map zero_of d.locals; left = m.frame.left - 1 }) (exec p (calls p (m.frame.left - 1)) d.body (record { this = this; locals = args ++ map zero_of d.locals }) (memory m)));
+          rw (onward_more p m.waits (w.Caller m.frame (otherwise_of d) wanted), eb)
+          (exits_called p (all_onward p m.waits) m.frame d wanted (record { this = this; locals = args ++ map zero_of d.locals; left = m.frame.left - 1 }) (exec p (calls p (m.frame.left - 1)) d.body (record { this = this; locals = args ++ map zero_of d.locals }) (memory m)));
       fewer = rw (waiting_more p m.waits (w.Caller m.frame (otherwise_of d) wanted), eb) (omega arith);
     })

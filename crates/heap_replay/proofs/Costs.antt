@@ -131,4 +131,3 @@ cost_return_none p call = rw (fold_out-Stmt ℕ (step_stmt p call) (s.Return Non
 pub cost_run : (p : Posed) (call : ℕ) (c : Call) → cost_of_stmt p call (s.Run c) ≡ cost_of_call call c
 unfolding cost_of_stmt
 cost_run p call c = rw (fold_out-Stmt ℕ (step_stmt p call) (s.Run c), s.outs-Run c) refl
-

@@ -4,3 +4,4 @@ pub mod Costs
 pub mod CodeSteps
 pub mod StmtSteps
 pub mod CallSteps
+pub mod WaitSteps

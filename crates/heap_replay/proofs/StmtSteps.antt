@@ -15,7 +15,7 @@ use Rattle.heap_core.specs.declared.value.Seen.{Seen}
 use Rattle.heap_core.specs.declared.value.Seen.TheVariants.{Is, Bad, Out}
 use Rattle.heap_core.specs.Posed.{Posed}
 use Rattle.heap_core.specs.Outcomes.{zero_of, negative, opposite}
-use Rattle.heap_core.specs.Exec.{Memory, Ends, Gives, Throws, Leaves, Exit, Goes, Returns, Stops, then_with, ends_as, on_object, gives_in, read, write, make, combined, in_order, entered, call_of, after, on_branch, in_turn, set_local, stepped, step_field, turns, then_body, run_body, calls}
+use Rattle.heap_core.specs.Exec.{Memory, Ends, Gives, Throws, Leaves, Exit, Goes, Returns, Stops, then_with, ends_as, on_object, gives_in, read, write, make, combined, in_order, entered, call_of, after, on_branch, in_turn, set_local, stepped, step_field, give_back, turns, then_body, run_body, calls}
 use Rattle.heap_core.proofs.ExecForms.{code_num, code_flag, code_null, code_this, code_local, code_read, code_neg, code_not, code_bin, code_new, code_call, code_result, code_bound, code_quant, code_old, code_has, code_size, call_form, exec_block, exec_set, exec_write, exec_step_local, exec_step_field, exec_if, exec_while, exec_return, exec_run}
 use Rattle.heap_replay.specs.declared.machine.Activation.{Activation}
 use Rattle.heap_replay.specs.declared.machine.Machine.{Machine}
@@ -44,10 +44,6 @@ block_at p m n t ss k =
 pub step_local_at : (p : Posed) (m n : Machine) (t : Task) (i : ℕ) (up : Bool) → Exits p m (after (gives_in (slice_get m.frame.locals i) (memory m)) (λ v n. after (stepped p.scope.ints up v n) (set_local (frame_of m.frame) i))) n t → Executed p m (s.StepLocal i up) n t
 step_local_at p m n t i up k =
     keeps_from p _ _ _ _ n t k (sym (ap (exits (on_from p m) m.frame) (exec_step_local p (calls p m.frame.left) i up (frame_of m.frame) (memory m)))) (let c = cost_step_local p (call_cost p m.frame.left) i up in omega arith)
-
-pub return_none_at : (p : Posed) (m : Machine) → Executed p m (s.Return None) m (task.Return None)
-return_none_at p m =
-    record { same = sym (ap (exits (on_from p m) m.frame) (exec_return p (calls p m.frame.left) None (frame_of m.frame) (memory m))); fewer = (let c = cost_return_none p (call_cost p m.frame.left) in omega arith) }
 
 pub run_at : (p : Posed) (m n : Machine) (t : Task) (c : Call) → Called p m c false n t → Executed p m (s.Run c) n t
 run_at p m n t c k =
@@ -79,18 +75,22 @@ if_at p m n t a u v k =
     (exits_after (on_from p m) m.frame (coded p m.frame a (frame_of m.frame) (memory m)) (on_branch (λ b l. if b then done p m.frame u (frame_of m.frame) l else done p m.frame v (frame_of m.frame) l)) ∙ sym (ap (exits (on_from p m) m.frame) (exec_if p (calls p m.frame.left) a u v (frame_of m.frame) (memory m))))
     (let c = cost_if p (call_cost p m.frame.left) a u v in omega arith)
 
-pub return_at : (p : Posed) (m n : Machine) (t : Task) (a : Expr) → At p m a (λ v l. Returns (Some v) l) (1 + waiting p m) n t → Executed p m (s.Return (Some a)) n t
-return_at p m n t a k =
-    keeps_from p _ _ _ _ n t k
-    (exits_after (on_from p m) m.frame (coded p m.frame a (frame_of m.frame) (memory m)) (λ v l. Returns (Some v) l) ∙ sym (ap (exits (on_from p m) m.frame) (exec_return p (calls p m.frame.left) (Some a) (frame_of m.frame) (memory m))))
-    (let c = cost_return p (call_cost p m.frame.left) a in omega arith)
-
-pub while_at : (p : Posed) (m n : Machine) (t : Task) (a : Expr) (u : Stmt) → At p m a (on_branch (turned p m.frame p.scope.loops a u)) (cost_of_turns p (call_cost p m.frame.left) p.scope.loops a u + waiting p m) n t → Executed p m (s.While a u) n t
+pub while_at : (p : Posed) (m n : Machine) (t : Task) (i : ℕ) (a : Expr) (u : Stmt) → i ≡ p.scope.loops → At p m a (on_branch (turned p m.frame i a u)) (cost_of_turns p (call_cost p m.frame.left) i a u + waiting p m) n t → Executed p m (s.While a u) n t
 unfolding cost_of_turns
-while_at p m n t a u k =
-    keeps_from p _ _ _ _ n t k
+while_at p m n t i a u is k =
+    let P : ℕ → Type 0 = λ z. At p m a (on_branch (turned p m.frame z a u)) (cost_of_turns p (call_cost p m.frame.left) z a u + waiting p m) n t in
+    keeps_from p _ _ _ _ n t (subst P is k)
     (turns_first p (on_from p m) m.frame p.scope.loops a u (memory m) ∙ sym (ap (exits (on_from p m) m.frame) (exec_while p (calls p m.frame.left) a u (frame_of m.frame) (memory m))))
     (let c = cost_while p (call_cost p m.frame.left) a u in omega arith)
+
+pub return_at : (p : Posed) (m n : Machine) (t : Task) (v : Option Expr) → Keeps p (exits (on_from p m) m.frame (give_back (option_map (coded p m.frame) v) (frame_of m.frame) (memory m))) (option_map_or (cost_of_code (call_cost p m.frame.left)) v 0 + 2 + waiting p m) n t → Executed p m (s.Return v) n t
+return_at p m n t None k =
+    keeps_from p _ _ _ _ n t k (sym (ap (exits (on_from p m) m.frame) (exec_return p (calls p m.frame.left) None (frame_of m.frame) (memory m)))) (let c = cost_return_none p (call_cost p m.frame.left) in omega arith)
+return_at p m n t (Some a) k =
+    keeps_from p _ _ _ _ n t k (sym (ap (exits (on_from p m) m.frame) (exec_return p (calls p m.frame.left) (Some a) (frame_of m.frame) (memory m)))) (let c = cost_return p (call_cost p m.frame.left) a in omega arith)
+
+pub given_at : (p : Posed) (m n : Machine) (t : Task) (a : Expr) → At p m a (λ v l. Returns (Some v) l) (1 + waiting p m) n t → Keeps p (exits (on_from p m) m.frame (give_back (Some (coded p m.frame a)) (frame_of m.frame) (memory m))) (cost_of_code (call_cost p m.frame.left) a + 2 + waiting p m) n t
+given_at p m n t a k = keeps_from p _ _ _ _ n t k (exits_after (on_from p m) m.frame (coded p m.frame a (frame_of m.frame) (memory m)) (λ v l. Returns (Some v) l)) (omega arith)
 
 -- the test of a loop is true, or false
 pub turn_true : (m n : Machine) (t : Task) (i : ℕ) (test : Bor Expr) (body : Bor Stmt) (p : Posed) → 0 < i → Keeps p (exits (on_past p m (w.Again (i - 1) test body)) m.frame (done p m.frame body.now (frame_of m.frame) (memory m))) (suc (cost_of_stmt p (call_cost p m.frame.left) body.now + weight p m (w.Again (i - 1) test body))) n t → Keeps p (exits (on_from p m) m.frame (turned p m.frame i test.now body.now true (memory m))) (suc (weight p m (w.Turn i test body))) n t

@@ -1,5 +1,6 @@
 -- What a machine comes to.
-use Rattle.std.specs.Prelude.{◌≡◌, ℕ, suc, ◌+◌, ◌-◌, ◌<◌, Bool, List, map, sum_by, slice_get, Option, Some, None}
+use Rattle.std.specs.Prelude.{◌≡◌, ℕ, suc, ◌+◌, ◌-◌, ◌<◌, Bool, List, map, sum_by, slice_get, Option, Some, None, option_map}
+use Rattle.std.specs.Option.{option_map_or}
 use Rattle.std.specs.Borrow.{Bor}
 use Rattle.taco_unit.specs.declared.expr.Op.{Op}
 use Rattle.taco_unit.specs.declared.expr.Expr.{Expr}
@@ -8,8 +9,11 @@ use Rattle.taco_unit.specs.declared.stmt.Stmt.{Stmt}
 use Rattle.taco_unit.specs.declared.unit.MethodDef.{MethodDef}
 use Rattle.heap_core.specs.declared.value.Value.{Value}
 use Rattle.heap_core.specs.Posed.{Posed}
-use Rattle.heap_core.specs.Exec.{Memory, Ends, Gives, Throws, Leaves, Exit, Goes, then_with, on_object, gives_in, read, write, make, entered, call_of, after, in_turn, set_local, stepped, step_field, run_body, calls}
+use Rattle.heap_core.specs.Exec.{Memory, Ends, Gives, Throws, Leaves, Exit, Goes, then_with, on_object, gives_in, read, write, make, entered, call_of, after, in_turn, set_local, stepped, step_field, give_back, run_body, calls}
 use Rattle.heap_replay.specs.declared.machine.Machine.{Machine}
+use Rattle.heap_core.specs.declared.start.Start.{Start}
+use Rattle.heap_core.specs.Judge.{run_of}
+use Rattle.heap_replay.specs.declared.runs.RunEnd.{RunEnd}
 use Rattle.heap_replay.specs.declared.machine.Wait.{Wait}
 use Rattle.heap_replay.specs.declared.machine.Wait.TheVariants as w
 use Rattle.heap_replay.specs.declared.machine.Outcome.{Outcome}
@@ -173,3 +177,32 @@ OnRight m o e v n t = (p : Posed) → Resumed p m (w.Right o e) v n t
 
 abbrev pub OnTurn : Machine → ℕ → Bor Expr → Bor Stmt → Value → Machine → Task → Type 0
 OnTurn m i test body v n t = (p : Posed) → Resumed p m (w.Turn i test body) v n t
+
+-- a `return`
+abbrev pub GivenBack : Machine → Option Expr → Machine → Task → Type 0
+GivenBack m v n t =
+    (p : Posed)
+    → Keeps p (exits (on_from p m) m.frame (give_back (option_map (coded p m.frame) v) (frame_of m.frame) (memory m))) (option_map_or (cost_of_code (call_cost p m.frame.left)) v 0 + 2 + waiting p m) n t
+
+-- one step from the end of a statement, and from a `return`, whatever problem is run
+abbrev pub Went : Machine → Wait → Machine → Task → Type 0
+Went m w n t = (p : Posed) → Ended p m w n t
+
+abbrev pub Unwound : Machine → Wait → Option Value → Machine → Task → Type 0
+Unwound m w v n t = (p : Posed) → Returned p m w v n t
+
+-- one step, whatever the task is; one that has ended stays
+abbrev pub most : Posed → Machine → Task → ℕ
+most p m (task.End o) = 1
+most p m t = cost p m t
+
+abbrev pub Steps : Posed → Machine → Task → Machine → Task → Type 0
+Steps p m t = Keeps p (comes_to p m t) (most p m t)
+
+-- a machine has come to its end
+pub record Comes (p : Posed) (m : Machine) (t : Task) (n : Machine) (o : Outcome) : Type 0 where
+  pub same : ends_with o (memory n) ≡ comes_to p m t
+
+-- how a run ends, with the heap that it leaves
+pub record Runs (p : Posed) (s : Start) (r : RunEnd) : Type 0 where
+  pub same : ends_with r.outcome (record { heap = r.heap }) ≡ run_of p s

@@ -8,6 +8,8 @@ use Rattle.heap_core.specs.Outcomes.{operated}
 use Rattle.heap_core.specs.declared.value.Value.{Value}
 use Rattle.heap_core.specs.declared.value.Seen.{Seen}
 use Rattle.heap_core.specs.declared.value.Seen.TheVariants.{Is, Bad, Out}
+use Rattle.heap_replay.specs.declared.machine.Outcome.{Outcome}
+use Rattle.heap_replay.specs.declared.machine.Outcome.TheVariants as outcome
 use Rattle.heap_replay.specs.declared.machine.Outcome.TheVariants.{Thrown, Unknown}
 use Rattle.heap_replay.specs.declared.machine.Task.{Task}
 use Rattle.heap_replay.specs.declared.machine.Task.TheVariants.{Execute, Give, Go, End}
@@ -43,3 +45,8 @@ branched s t _ = End Unknown
 abbrev pub step : ℕ → Bool → Value → Seen
 step w true v = operated op.Add w v (Num (pos 1))
 step w false v = operated op.Sub w v (Num (pos 1))
+
+-- how a run ends that gives this
+abbrev pub outcome_of : Option Value → Outcome
+outcome_of (Some v) = outcome.Value v
+outcome_of None = outcome.Nothing

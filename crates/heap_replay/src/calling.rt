@@ -1,4 +1,5 @@
-ghost use Rattle.std.specs.Prelude.{◌≡◌, ◌<◌, ◌++◌, IfOk, map};
+ghost use Rattle.std.specs.Prelude.{◌≡◌, ◌<◌, ◌++◌, IfOk, map, slice_get};
+ghost use Rattle.std.specs.Option.{option_copied};
 ghost use Rattle.heap_core.specs.Outcomes.{zero_of as zero_of_lem};
 ghost use Rattle.heap_replay.specs.Onward.{otherwise_of as otherwise_of_lem};
 ghost use Rattle.heap_replay.specs.Machines.{Called, Argued, Entered, Started, Begun};
@@ -58,6 +59,13 @@ fn begin<'a>(
     Ok(Task::Execute(&method.body))
 }
 
+/// The method of this number.
+fn method_at(problem: &Problem, method: u8) -> Option<&MethodDef>
+    ensures { option_copied result ≡ slice_get problem.now.unit.methods method }
+{
+    at(problem.unit.methods.as_slice(), usize::from(method))
+}
+
 /// A method is run on a receiver, where calls may be nested so deep.
 fn start<'a>(
     problem: &'a Problem,
@@ -72,7 +80,7 @@ fn start<'a>(
     if machine.frame.left == 0 {
         return Ok(Task::End(Outcome::Unknown));
     }
-    match at(problem.unit.methods.as_slice(), usize::from(method)) {
+    match method_at(problem, method) {
         Some(d) => {
             let task = begin(machine, d, this, args, wanted)?;
             Ok(task)

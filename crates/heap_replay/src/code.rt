@@ -1,12 +1,13 @@
 ghost use Rattle.std.specs.Prelude.{◌≡◌, IfOk, slice_get};
+ghost use Rattle.heap_core.specs.Outcomes.{number as number_lem};
 ghost use Rattle.heap_replay.specs.Machines.{Evaluated, Made};
 
 use crate::calling::call;
 use crate::machine::{Machine, Outcome, Task, Wait};
 use crate::steps::evaluate_for;
 use crate::tasks::{given, given_in};
-use heap_core::{Problem, Value};
-use heap_leaves::{grow, number};
+use heap_core::{Problem, Seen, Value};
+use heap_leaves::grow;
 use no_memory::NoMemory;
 use std::alloc::Global;
 use taco_unit::Expr;
@@ -33,6 +34,13 @@ pub fn local_at(locals: &[Value], local: u8) -> Option<Value>
     locals.get(usize::from(local)).copied()
 }
 
+/// A number as it stands in code.
+fn literal(problem: &Problem, number: i32) -> Seen
+    ensures { result ≡ number_lem problem.now.scope.ints number }
+{
+    heap_leaves::number(problem.scope.ints, i64::from(number))
+}
+
 /// One step of the evaluation of an expression of code.
 pub fn evaluate<'a>(
     alloc: Global,
@@ -43,7 +51,7 @@ pub fn evaluate<'a>(
     ensures { IfOk result (Evaluated problem.now machine.old expr.now machine.new) }
 {
     match expr {
-        Expr::Num(z) => Ok(given(number(problem.scope.ints, i64::from(*z)))),
+        Expr::Num(z) => Ok(given(literal(problem, *z))),
         Expr::Flag(b) => Ok(Task::Give(Value::Flag(*b))),
         Expr::Null => Ok(Task::Give(Value::Null)),
         Expr::This => Ok(Task::Give(machine.frame.this)),

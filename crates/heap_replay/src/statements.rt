@@ -1,5 +1,5 @@
 ghost use Rattle.std.specs.Prelude.{◌≡◌, ◌≤◌, IfOk};
-ghost use Rattle.heap_replay.specs.Machines.{Executed, Blocks, LocalSet, LocalStepped, Stored, HeldStepped, FieldStepped};
+ghost use Rattle.heap_replay.specs.Machines.{Executed, Blocks, LocalSet, LocalStepped, Stored, HeldStepped, FieldStepped, GivenBack};
 ghost use Rattle.heap_replay.specs.Tasks.{step as step_lem};
 
 use crate::calling::call;
@@ -10,7 +10,7 @@ use heap_core::{Problem, Seen, Value};
 use heap_leaves::{operated, read, write};
 use no_memory::NoMemory;
 use std::alloc::Global;
-use taco_unit::{Op, Stmt};
+use taco_unit::{Expr, Op, Stmt};
 
 /// The statements of a block are executed, one after the other.
 pub fn execute_all<'a>(machine: &mut Machine<'a>, stmts: &'a [Stmt]) -> Result<Task<'a>, NoMemory>
@@ -125,6 +125,26 @@ pub fn step_field<'a>(
     }
 }
 
+/// How many turns a loop may have.
+fn turns_of(problem: &Problem) -> u8
+    ensures { result ≡ problem.now.scope.loops }
+{
+    problem.scope.loops
+}
+
+/// The value is returned, where there is one.
+fn give_back<'a>(machine: &mut Machine<'a>, value: &'a Option<Expr>) -> Result<Task<'a>, NoMemory>
+    ensures { IfOk result (GivenBack machine.old value.now machine.new) }
+{
+    match value {
+        None => Ok(Task::Return(None)),
+        Some(a) => {
+            let task = evaluate_for(machine, Wait::Return, a)?;
+            Ok(task)
+        }
+    }
+}
+
 /// One step of a statement.
 pub fn execute<'a>(
     alloc: Global,
@@ -157,13 +177,12 @@ pub fn execute<'a>(
             Ok(task)
         }
         Stmt::While(a, s) => {
-            let turns = problem.scope.loops;
+            let turns = turns_of(problem);
             let task = evaluate_for(machine, Wait::Turn(turns, a, s.get()), a)?;
             Ok(task)
         }
-        Stmt::Return(None) => Ok(Task::Return(None)),
-        Stmt::Return(Some(a)) => {
-            let task = evaluate_for(machine, Wait::Return, a)?;
+        Stmt::Return(value) => {
+            let task = give_back(machine, value)?;
             Ok(task)
         }
         Stmt::Run(c) => {

@@ -5,6 +5,7 @@ use Rattle.taco_unit.specs.declared.expr.Expr.TheVariants as e
 use Rattle.taco_unit.specs.declared.expr.Call.{out-Call}
 use Rattle.taco_unit.specs.declared.stmt.Stmt.{Stmt}
 use Rattle.taco_unit.specs.declared.stmt.Stmt.TheVariants as s
+use Rattle.heap_core.specs.declared.value.Value.{Value}
 use Rattle.heap_core.specs.declared.value.Value.TheVariants as v
 use Rattle.heap_core.specs.Outcomes.{number, opposite, negative}
 use Rattle.heap_core.specs.Exec.{Gives, Leaves, ends_as, gives_in, make, calls}
@@ -12,7 +13,7 @@ use Rattle.heap_core.proofs.ExecForms.{code_num, code_flag, code_null, code_this
 use Rattle.heap_replay.specs.Onward.{frame_of}
 use Rattle.heap_replay.specs.Cost.{call_cost}
 use Rattle.heap_replay.specs.Tasks.{given, given_in}
-use Rattle.heap_replay.specs.Machines.{memory, Gained}
+use Rattle.heap_replay.specs.Machines.{memory, Gained, Argued}
 use Rattle.heap_replay.proofs.Costs.{cost_num, cost_flag, cost_null, cost_this, cost_local, cost_new, cost_result, cost_bound, cost_quant, cost_old, cost_has, cost_size}
 use Rattle.heap_replay.proofs.CallSteps.{target_at, static_at}
 use Rattle.heap_replay.proofs.calling.call.Goals as goal
@@ -24,5 +25,7 @@ returns-in_ok-task-in-Some c =
 
 pub returns-in_ok-task-in-None : goal.returns-in_ok-task-in-None
 returns-in_ok-task-in-None c =
+    let P : List Value → Type 0 = λ z. Argued c.args.problem.now c.args.machine.now c.args.call.now.method None z c.as_slice-rest.result.now c.args.wanted c.call_on.new.machine c.in_ok-task-in-None.task in
+    let Q : List Expr → Type 0 = λ z. Argued c.args.problem.now c.args.machine.now c.args.call.now.method None [] z c.args.wanted c.call_on.new.machine c.in_ok-task-in-None.task in
     static_at c.args.problem.now c.args.machine.now c.call_on.new.machine c.in_ok-task-in-None.task c.args.call.now c.args.wanted c.in-None.is
-    (rw (sym c.as_slice-rest.ensures, sym c.new.ensures) c.in_ok-task-in-None.ensures)
+    (subst Q c.as_slice-rest.ensures (subst P c.new.ensures c.in_ok-task-in-None.ensures))

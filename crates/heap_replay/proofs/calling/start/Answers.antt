@@ -19,5 +19,4 @@ use Rattle.heap_replay.proofs.calling.start.Goals as goal
 
 pub returns-in_ok-task-in-Some : goal.returns-in_ok-task-in-Some
 returns-in_ok-task-in-Some c =
-    let is : slice_get c.args.problem.now.unit.methods c.args.method ≡ Some c.in-Some.d.now = cc (c.in-Some.ensures, c.as_slice.ensures, c.from.ensures, c.problem.view_is, c.problem-inside.view_is) in
-    started_at c.args.problem.now c.args.machine.now c.begin.new.machine c.in_ok-task-in-Some.task c.args.method c.args.this c.args.args c.args.wanted c.in-Some.d.now (omega arith) is c.in_ok-task-in-Some.ensures
+    started_at c.args.problem.now c.args.machine.now c.begin.new.machine c.in_ok-task-in-Some.task c.args.method c.args.this c.args.args c.args.wanted c.in-Some.d.now (omega arith) (sym c.in-Some.ensures) c.in_ok-task-in-Some.ensures

@@ -1,4 +1,4 @@
-use Rattle.std.proofs.Common.{◌≡◌, ℕ, ◌+◌, ◌<◌, List, [], ◌∷◌, ◌++◌, Option, Some, None, Bor, refl, ap, sym, subst, ◌∙◌, arith}
+use Rattle.std.proofs.Common.{◌≡◌, ℕ, ◌+◌, ◌<◌, List, [], ◌∷◌, ◌++◌, Option, Some, None, Bor, inl, inr, refl, ap, sym, subst, ◌∙◌, arith}
 use Rattle.std.specs.Prelude.{slice_get}
 use Rattle.taco_unit.specs.declared.expr.Expr.{Expr}
 use Rattle.taco_unit.specs.declared.expr.Expr.TheVariants as e
@@ -9,6 +9,8 @@ use Rattle.heap_core.specs.declared.value.Value.TheVariants as v
 use Rattle.heap_core.specs.Outcomes.{number, opposite, negative}
 use Rattle.heap_core.specs.Exec.{Gives, Leaves, ends_as, gives_in, make, calls}
 use Rattle.heap_core.proofs.ExecForms.{code_num, code_flag, code_null, code_this, code_local, code_new, code_result, code_bound, code_quant, code_old, code_has, code_size}
+use Rattle.std.proofs.Common.{SFits, w32, rules}
+use Rattle.std.proofs.lemmas.Int.{to_z-of_z}
 use Rattle.heap_replay.specs.Onward.{frame_of}
 use Rattle.heap_replay.specs.Cost.{call_cost}
 use Rattle.heap_replay.specs.Tasks.{given, given_in}
@@ -20,7 +22,7 @@ use Rattle.heap_replay.proofs.code.evaluate.Goals as goal
 pub returns-in-Num : goal.returns-in-Num
 returns-in-Num c =
     evaluated_as c.args.problem.now c.args.machine.now c.args.machine.now _ _ _ c.in-Num.is
-    (gained_at c.args.problem.now c.args.machine.now c.args.machine.now _ (e.Num c.in-Num.z) (ends_as (memory c.args.machine.now) (number c.args.problem.now.scope.ints c.in-Num.z)) (code_num c.args.problem.now (calls c.args.problem.now c.args.machine.now.frame.left) c.in-Num.z (frame_of c.args.machine.now.frame) (memory c.args.machine.now)) (cost_num (call_cost c.args.problem.now c.args.machine.now.frame.left) c.in-Num.z) (let is : c.given.result ≡ given (number c.args.problem.now.scope.ints c.in-Num.z) = ? in rw is (gives_seen c.args.problem.now c.args.machine.now (number c.args.problem.now.scope.ints c.in-Num.z))))
+    (gained_at c.args.problem.now c.args.machine.now c.args.machine.now _ (e.Num c.in-Num.z) (ends_as (memory c.args.machine.now) (number c.args.problem.now.scope.ints c.in-Num.z)) (code_num c.args.problem.now (calls c.args.problem.now c.args.machine.now.frame.left) c.in-Num.z (frame_of c.args.machine.now.frame) (memory c.args.machine.now)) (cost_num (call_cost c.args.problem.now c.args.machine.now.frame.left) c.in-Num.z) (let is : c.given.result ≡ given (number c.args.problem.now.scope.ints c.in-Num.z) = c.given.ensures ∙ ap given (c.literal.ensures ∙ ap (number c.args.problem.now.scope.ints) (let fits : SFits w32 c.in-Num.z = search rules in to_z-of_z w32 c.in-Num.z fits)) in rw is (gives_seen c.args.problem.now c.args.machine.now (number c.args.problem.now.scope.ints c.in-Num.z))))
 
 pub returns-in-Flag : goal.returns-in-Flag
 returns-in-Flag c =
@@ -30,12 +32,12 @@ returns-in-Flag c =
 pub returns-in-Null : goal.returns-in-Null
 returns-in-Null c =
     evaluated_as c.args.problem.now c.args.machine.now c.args.machine.now _ _ _ c.in-Null.is
-    (gained_at c.args.problem.now c.args.machine.now c.args.machine.now _ (e.Null) (Gives v.Null (memory c.args.machine.now)) (code_null c.args.problem.now (calls c.args.problem.now c.args.machine.now.frame.left)  (frame_of c.args.machine.now.frame) (memory c.args.machine.now)) (cost_null (call_cost c.args.problem.now c.args.machine.now.frame.left) ) (gives_value c.args.problem.now c.args.machine.now v.Null))
+    (gained_at c.args.problem.now c.args.machine.now c.args.machine.now _ (e.Null) (Gives v.Null (memory c.args.machine.now)) (code_null c.args.problem.now (calls c.args.problem.now c.args.machine.now.frame.left) (frame_of c.args.machine.now.frame) (memory c.args.machine.now)) (cost_null (call_cost c.args.problem.now c.args.machine.now.frame.left)) (gives_value c.args.problem.now c.args.machine.now v.Null))
 
 pub returns-in-This : goal.returns-in-This
 returns-in-This c =
     evaluated_as c.args.problem.now c.args.machine.now c.args.machine.now _ _ _ c.in-This.is
-    (gained_at c.args.problem.now c.args.machine.now c.args.machine.now _ (e.This) (Gives c.args.machine.now.frame.this (memory c.args.machine.now)) (code_this c.args.problem.now (calls c.args.problem.now c.args.machine.now.frame.left)  (frame_of c.args.machine.now.frame) (memory c.args.machine.now)) (cost_this (call_cost c.args.problem.now c.args.machine.now.frame.left) ) (gives_value c.args.problem.now c.args.machine.now c.args.machine.now.frame.this))
+    (gained_at c.args.problem.now c.args.machine.now c.args.machine.now _ (e.This) (Gives c.args.machine.now.frame.this (memory c.args.machine.now)) (code_this c.args.problem.now (calls c.args.problem.now c.args.machine.now.frame.left) (frame_of c.args.machine.now.frame) (memory c.args.machine.now)) (cost_this (call_cost c.args.problem.now c.args.machine.now.frame.left)) (gives_value c.args.problem.now c.args.machine.now c.args.machine.now.frame.this))
 
 pub returns-in-Local : goal.returns-in-Local
 returns-in-Local c =
@@ -79,4 +81,20 @@ returns-in_ok-task-in-Call c =
     (call_at c.args.problem.now c.args.machine.now c.call.new.machine c.in_ok-task-in-Call.task c.in-Call.c c.in_ok-task-in-Call.ensures)
 
 pub returns-in-Result : goal.returns-in-Result
-returns-in-Result c = ?
+returns-in-Result c =
+    elim c.in-Result.is [
+      | inl h ↦ evaluated_as c.args.problem.now c.args.machine.now c.args.machine.now _ _ _ h (gained_at c.args.problem.now c.args.machine.now c.args.machine.now _ (e.Result) Leaves (code_result c.args.problem.now (calls c.args.problem.now c.args.machine.now.frame.left) (frame_of c.args.machine.now.frame) (memory c.args.machine.now)) (cost_result (call_cost c.args.problem.now c.args.machine.now.frame.left)) (gives_nothing c.args.problem.now c.args.machine.now))
+      | inr r ↦ elim r [
+        | inl h ↦ evaluated_as c.args.problem.now c.args.machine.now c.args.machine.now _ _ _ h.1 (gained_at c.args.problem.now c.args.machine.now c.args.machine.now _ (e.Bound h.0) Leaves (code_bound c.args.problem.now (calls c.args.problem.now c.args.machine.now.frame.left) h.0 (frame_of c.args.machine.now.frame) (memory c.args.machine.now)) (cost_bound (call_cost c.args.problem.now c.args.machine.now.frame.left) h.0) (gives_nothing c.args.problem.now c.args.machine.now))
+        | inr r' ↦ elim r' [
+          | inl h ↦ evaluated_as c.args.problem.now c.args.machine.now c.args.machine.now _ _ _ h.1 (gained_at c.args.problem.now c.args.machine.now c.args.machine.now _ (e.Quant h.0) Leaves (code_quant c.args.problem.now (calls c.args.problem.now c.args.machine.now.frame.left) h.0 (frame_of c.args.machine.now.frame) (memory c.args.machine.now)) (cost_quant (call_cost c.args.problem.now c.args.machine.now.frame.left) h.0) (gives_nothing c.args.problem.now c.args.machine.now))
+          | inr r'' ↦ elim r'' [
+            | inl h ↦ evaluated_as c.args.problem.now c.args.machine.now c.args.machine.now _ _ _ h.1 (gained_at c.args.problem.now c.args.machine.now c.args.machine.now _ (e.Old h.0) Leaves (code_old c.args.problem.now (calls c.args.problem.now c.args.machine.now.frame.left) h.0 (frame_of c.args.machine.now.frame) (memory c.args.machine.now)) (cost_old (call_cost c.args.problem.now c.args.machine.now.frame.left) h.0) (gives_nothing c.args.problem.now c.args.machine.now))
+            | inr q ↦ elim q [
+              | inl h ↦ evaluated_as c.args.problem.now c.args.machine.now c.args.machine.now _ _ _ h.2 (gained_at c.args.problem.now c.args.machine.now c.args.machine.now _ (e.Has h.0 h.1) Leaves (code_has c.args.problem.now (calls c.args.problem.now c.args.machine.now.frame.left) h.0 h.1 (frame_of c.args.machine.now.frame) (memory c.args.machine.now)) (cost_has (call_cost c.args.problem.now c.args.machine.now.frame.left) h.0 h.1) (gives_nothing c.args.problem.now c.args.machine.now))
+              | inr h ↦ evaluated_as c.args.problem.now c.args.machine.now c.args.machine.now _ _ _ h.1 (gained_at c.args.problem.now c.args.machine.now c.args.machine.now _ (e.Size h.0) Leaves (code_size c.args.problem.now (calls c.args.problem.now c.args.machine.now.frame.left) h.0 (frame_of c.args.machine.now.frame) (memory c.args.machine.now)) (cost_size (call_cost c.args.problem.now c.args.machine.now.frame.left) h.0) (gives_nothing c.args.problem.now c.args.machine.now))
+            ]
+          ]
+        ]
+      ]
+    ]

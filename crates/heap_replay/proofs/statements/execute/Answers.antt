@@ -14,7 +14,7 @@ use Rattle.heap_replay.specs.Cost.{call_cost}
 use Rattle.heap_replay.specs.Tasks.{given, given_in}
 use Rattle.heap_replay.specs.Machines.{memory, Gained}
 use Rattle.heap_replay.proofs.Costs.{cost_num, cost_flag, cost_null, cost_this, cost_local, cost_new, cost_result, cost_bound, cost_quant, cost_old, cost_has, cost_size}
-use Rattle.heap_replay.proofs.StmtSteps.{executed_as, block_at, step_local_at, return_none_at, run_at, set_at, write_at, step_field_at, if_at, return_at, while_at}
+use Rattle.heap_replay.proofs.StmtSteps.{executed_as, block_at, step_local_at, run_at, set_at, write_at, step_field_at, if_at, return_at, while_at}
 use Rattle.heap_replay.proofs.statements.execute.Goals as goal
 
 pub returns-in_ok-task-in-Block : goal.returns-in_ok-task-in-Block
@@ -55,20 +55,14 @@ pub returns-in_ok-task-in-While : goal.returns-in_ok-task-in-While
 returns-in_ok-task-in-While c =
     let is : c.args.stmt.now ≡ s.While c.in-While.a c.get-in-While.result.now = c.in-While.is ∙ ap (λ z. s.While c.in-While.a z) (sym c.get-in-While.ensures) in
     executed_as c.args.problem.now c.args.machine.now c.evaluate_for-in-While.new.machine c.in_ok-task-in-While.task _ _ is
-    (while_at c.args.problem.now c.args.machine.now c.evaluate_for-in-While.new.machine c.in_ok-task-in-While.task c.in-While.a c.get-in-While.result.now (c.in_ok-task-in-While.ensures c.args.problem.now))
+    (while_at c.args.problem.now c.args.machine.now c.evaluate_for-in-While.new.machine c.in_ok-task-in-While.task c.turns_of-turns.result c.in-While.a c.get-in-While.result.now c.turns_of-turns.ensures (c.in_ok-task-in-While.ensures c.args.problem.now))
 
-pub returns-in_ok-task-in-Return-Some : goal.returns-in_ok-task-in-Return-Some
-returns-in_ok-task-in-Return-Some c =
-    let is : c.args.stmt.now ≡ s.Return (Some c.in-Return-Some.a) = c.in-Return-Some.is ∙ ap s.Return c.in-Return-Some.field-0-is in
-    executed_as c.args.problem.now c.args.machine.now c.evaluate_for-in-Return-Some.new.machine c.in_ok-task-in-Return-Some.task _ _ is
-    (return_at c.args.problem.now c.args.machine.now c.evaluate_for-in-Return-Some.new.machine c.in_ok-task-in-Return-Some.task c.in-Return-Some.a (c.in_ok-task-in-Return-Some.ensures c.args.problem.now))
+pub returns-in_ok-task-in-Return : goal.returns-in_ok-task-in-Return
+returns-in_ok-task-in-Return c =
+    executed_as c.args.problem.now c.args.machine.now c.give_back.new.machine c.in_ok-task-in-Return.task _ _ c.in-Return.is
+    (return_at c.args.problem.now c.args.machine.now c.give_back.new.machine c.in_ok-task-in-Return.task c.in-Return.value (c.in_ok-task-in-Return.ensures c.args.problem.now))
 
 pub returns-in_ok-task-in-Run : goal.returns-in_ok-task-in-Run
 returns-in_ok-task-in-Run c =
     executed_as c.args.problem.now c.args.machine.now c.call.new.machine c.in_ok-task-in-Run.task _ _ c.in-Run.is
     (run_at c.args.problem.now c.args.machine.now c.call.new.machine c.in_ok-task-in-Run.task c.in-Run.c c.in_ok-task-in-Run.ensures)
-
-pub returns-in-Return-None : goal.returns-in-Return-None
-returns-in-Return-None c =
-    let is : c.args.stmt.now ≡ s.Return None = c.in-Return-None.is ∙ ap s.Return c.in-Return-None.field-0-is in
-    executed_as c.args.problem.now c.args.machine.now c.args.machine.now _ _ _ is (return_none_at c.args.problem.now c.args.machine.now)

@@ -19,8 +19,9 @@ use Rattle.heap_replay.proofs.values.turn.Goals as goal
 
 pub returns-in_ok-task-in-Flag-true : goal.returns-in_ok-task-in-Flag-true
 returns-in_ok-task-in-Flag-true c p =
-    turn_true c.args.machine.now c.execute_before.new.machine c.in_ok-task-in-Flag-true.task c.args.turns c.args.test c.args.body p (omega arith) (c.in_ok-task-in-Flag-true.ensures p)
+    rw (c.in-Flag-true.is, c.in-Flag-true.field-0-test)
+    (turn_true c.args.machine.now c.execute_before.new.machine c.in_ok-task-in-Flag-true.task c.args.turns c.args.test c.args.body p (omega arith) (c.in_ok-task-in-Flag-true.ensures p))
 
 pub returns-in-Flag-false : goal.returns-in-Flag-false
 unfolding cost_of_turns
-returns-in-Flag-false c p = record { same = refl; fewer = omega arith }
+returns-in-Flag-false c p = rw (c.in-Flag-false.is, c.in-Flag-false.field-0-test) (record { same = refl; fewer = omega arith })
