@@ -113,7 +113,7 @@ exits_last p a d (Returns v m) is = refl
 exits_last p a d (Raises m) is = refl
 exits_last p a d Stops is = refl
 
-pub whole_run : (p : Posed) (s' : Start) (d : MethodDef) (m : Machine) (body : Bor Stmt) → method_of p ≡ Some d → body.now ≡ d.body → m.waits ≡ [] → m.frame ≡ record { this = s'.this; locals = s'.args ++ map zero_of d.locals; left = p.scope.calls } → m.heap.items ≡ s'.objects → comes_to p m (task.Execute body) ≡ run_of p s'
+pub whole_run : (p : Posed) (s' : Start) (d : MethodDef) (m : Machine) (body : Stmt) → method_of p ≡ Some d → body ≡ d.body → m.waits ≡ [] → m.frame ≡ record { this = s'.this; locals = s'.args ++ map zero_of d.locals; left = p.scope.calls } → m.heap.items ≡ s'.objects → executed p m body ≡ run_of p s'
 whole_run p s' d m body is eb ew ef eh =
     ap (λ z. exits (on_from p m) m.frame (done p m.frame z (frame_of m.frame) (memory m))) eb
     ∙ ap (λ z. exits (all_onward p z) m.frame (done p m.frame d.body (frame_of m.frame) (memory m))) ew

@@ -10,6 +10,7 @@ use Rattle.taco_unit.specs.declared.unit.MethodDef.{MethodDef}
 use Rattle.heap_core.specs.declared.value.Value.{Value}
 use Rattle.heap_core.specs.Posed.{Posed}
 use Rattle.heap_core.specs.Exec.{Memory, Ends, Gives, Throws, Leaves, Exit, Goes, then_with, on_object, gives_in, read, write, make, entered, call_of, after, in_turn, set_local, stepped, step_field, give_back, run_body, calls}
+use Rattle.heap_replay.specs.declared.machine.Activation.{Activation}
 use Rattle.heap_replay.specs.declared.machine.Machine.{Machine}
 use Rattle.heap_core.specs.declared.start.Start.{Start}
 use Rattle.heap_core.specs.Judge.{run_of}
@@ -187,6 +188,14 @@ GivenBack m v n t =
 -- one step from the end of a statement, and from a `return`, whatever problem is run
 abbrev pub Went : Machine → Wait → Machine → Task → Type 0
 Went m w n t = (p : Posed) → Ended p m w n t
+
+abbrev pub WentAgain : Machine → ℕ → Bor Expr → Bor Stmt → Machine → Task → Type 0
+WentAgain m i test body n t = (p : Posed) → Ended p m (w.Again i test body) n t
+
+abbrev pub WentBack : Machine → Activation → Bool → Option Value → Machine → Task → Type 0
+WentBack m caller wanted r n t =
+    (p : Posed)
+    → Keeps p (given_back (on_from p m) caller wanted r (memory m)) (suc (1 + all_waiting p m.waits caller.left)) n t
 
 abbrev pub Unwound : Machine → Wait → Option Value → Machine → Task → Type 0
 Unwound m w v n t = (p : Posed) → Returned p m w v n t

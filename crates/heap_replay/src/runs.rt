@@ -1,4 +1,4 @@
-ghost use Rattle.std.specs.Prelude.{◌≡◌, Some, IfOk, option_and_then};
+ghost use Rattle.std.specs.Prelude.{◌≡◌, ◌<◌, Some, IfOk, length, slice_get, option_and_then};
 ghost use Rattle.heap_core.specs.Start.{method_of};
 ghost use Rattle.heap_replay.specs.Onward.{otherwise_of as otherwise_of_lem};
 ghost use Rattle.heap_replay.specs.Tasks.{outcome_of as outcome_of_lem};
@@ -150,6 +150,13 @@ pub struct RunEnd {
     pub heap: Items<Object>,
 }
 
+/// How deep calls may be nested.
+fn calls_of(problem: &Problem) -> u8
+    ensures { result ≡ problem.now.scope.calls }
+{
+    problem.scope.calls
+}
+
 /// Runs a method on a start.
 fn run_method(
     alloc: Global,
@@ -162,7 +169,7 @@ fn run_method(
 {
     let args = Items::from_slice(alloc, start.args.as_slice())?;
     let locals = first_locals(args, method.locals.as_slice())?;
-    let left = problem.scope.calls;
+    let left = calls_of(problem);
     let frame = Activation {
         this: start.this,
         locals,
@@ -181,12 +188,26 @@ fn run_method(
     Ok(RunEnd { outcome, heap })
 }
 
+fn item_at(methods: &[MethodDef], at: usize) -> &MethodDef
+    requires { at < length methods.now }
+    ensures { slice_get methods.now at ≡ Some result.now }
+{
+    &methods[at]
+}
+
+/// The method that is run.
+fn method_at(problem: &Problem) -> &MethodDef
+    ensures { method_of problem.now ≡ Some result.now }
+{
+    item_at(problem.unit.methods.as_slice(), usize::from(problem.method))
+}
+
 /// Runs the method of a problem on a start. How the run ends, with the heap that it leaves, which
 /// nobody speaks of where the run leaves the scope. Linear in the steps of the run.
 pub fn run(alloc: Global, problem: &Problem, start: &Start) -> Result<RunEnd, NoMemory>
     ensures { IfOk result (Runs problem.now start.now) }
 {
-    let method = &problem.unit.methods.as_slice()[usize::from(problem.method)];
+    let method = method_at(problem);
     let run = run_method(alloc, problem, method, start)?;
     Ok(run)
 }

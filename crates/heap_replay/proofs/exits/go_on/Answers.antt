@@ -1,13 +1,6 @@
+use Rattle.heap_replay.proofs.WaitSteps.{nothing_ends}
 use Rattle.heap_replay.proofs.exits.go_on.Goals as goal
 
-pub returns-in_ok-task-in-Rest : goal.returns-in_ok-task-in-Rest
-returns-in_ok-task-in-Rest c = ?
-
-pub returns-in_ok-task-in-Again : goal.returns-in_ok-task-in-Again
-returns-in_ok-task-in-Again c = ?
-
-pub returns-in-Caller : goal.returns-in-Caller
-returns-in-Caller c = ?
-
-pub returns-in_default : goal.returns-in_default
-returns-in_default c = ?
+pub returns : goal.returns
+returns c p =
+    nothing_ends p c.args.machine.now c.args.wait c.in_default.not-Rest c.in_default.not-Again c.in_default.not-Caller

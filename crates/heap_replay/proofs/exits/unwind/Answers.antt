@@ -1,7 +1,5 @@
+use Rattle.heap_replay.proofs.WaitSteps.{passes}
 use Rattle.heap_replay.proofs.exits.unwind.Goals as goal
 
-pub returns-in-Caller : goal.returns-in-Caller
-returns-in-Caller c = ?
-
-pub returns-in_default : goal.returns-in_default
-returns-in_default c = ?
+pub returns : goal.returns
+returns c p = passes p c.args.machine.now c.args.wait c.args.value c.in_default.not-Caller
