@@ -2,3 +2,4 @@ pub mod Onward
 pub mod Cost
 pub mod Tasks
 pub mod Machines
+pub mod Row

@@ -9,6 +9,8 @@ mod runs;
 mod statements;
 mod steps;
 mod tasks;
+#[cfg(test)]
+mod tests;
 mod values;
 
 pub use machine::Outcome;
