@@ -1,4 +1,4 @@
-ghost use Rattle.std.specs.Prelude.{◌≡◌, ◌==◌, Some, None, IfOk, length, map, nat_lt, position, slice_get, slice_set, option_and_then, if◌then◌else◌};
+ghost use Rattle.std.specs.Prelude.{◌≡◌, ◌==◌, Some, None, IfOk, IfSome, option_map, length, map, nat_lt, position, slice_get, slice_set, option_and_then, if◌then◌else◌};
 ghost use Rattle.heap_core.specs.Heap.{field as field_lem, cell, place_of as place_of_lem, put, first_value as first_value_lem, grown};
 
 use crate::numbers::zero_of;
@@ -105,25 +105,27 @@ fn first_values(alloc: Global, fields: &[FieldDef], listed: &[u8]) -> Result<Ite
     Ok(cells)
 }
 
-/// Adds a new object of the class, which has the next number, and says whether the unit has the class
-/// and the heap has room for it. Linear in the class's fields.
+/// Adds a new object of the class, and answers its number. `None` where the unit lacks the class or
+/// the heap has no room for it. Linear in the class's fields.
 pub fn grow(
     alloc: Global,
     problem: &Problem,
     heap: &mut Vec<Object>,
     class: u8,
-) -> Result<bool, NoMemory>
-    ensures { IfOk result (λ done. grown problem.now heap.old.items class ≡ (if done then Some heap.new.items else None)) }
+) -> Result<Option<u8>, NoMemory>
+    ensures heap { IfOk result (λ number. grown problem.now heap.old.items class ≡ option_map (λ o. heap.new.items) number) }
+    ensures number { IfOk result (λ number. IfSome number (λ o. o ≡ length heap.old.items)) }
 {
     if heap.len() >= usize::from(problem.scope.objects) {
-        return Ok(false);
+        return Ok(None);
     }
     match at(problem.unit.classes.as_slice(), usize::from(class)) {
         Some(d) => {
             let cells = first_values(alloc, problem.unit.fields.as_slice(), d.fields.as_slice())?;
+            let number = heap.len() as u8;
             heap.push(Object { class, cells })?;
-            Ok(true)
+            Ok(Some(number))
         }
-        None => Ok(false),
+        None => Ok(None),
     }
 }

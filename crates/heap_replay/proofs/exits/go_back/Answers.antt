@@ -1,0 +1,6 @@
+use Rattle.std.proofs.Common.{◌≡◌, refl, ap, sym, ◌∙◌, arith}
+use Rattle.heap_replay.proofs.WaitSteps.{back_at}
+use Rattle.heap_replay.proofs.exits.go_back.Goals as goal
+
+pub returns : goal.returns
+returns c p = rw c.given_back.ensures (back_at p c.args.machine.now c.args.caller c.args.wanted c.args.value)

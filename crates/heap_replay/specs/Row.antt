@@ -1,0 +1,12 @@
+-- The unit of the tests: class N { int v; nullable N next; void m() { } }
+use Rattle.std.specs.Prelude.{false, true, [], ◌∷◌, None}
+use Rattle.taco_unit.specs.declared.kind.Kind.TheVariants.{Int, Ref}
+use Rattle.taco_unit.specs.declared.stmt.Stmt.TheVariants.{Block}
+use Rattle.taco_unit.specs.Parts.{Parts}
+
+abbrev pub row_unit : Parts
+row_unit = record {
+  classes = record { name = 78 ∷ []; fields = 0 ∷ 1 ∷ []; methods = 0 ∷ []; invariants = [] } ∷ [];
+  fields = record { name = 118 ∷ []; class = 0; kind = Int; nullable = false } ∷ record { name = 110 ∷ []; class = 0; kind = Ref 0; nullable = true } ∷ [];
+  methods = record { name = 109 ∷ []; class = 0; fixed = false; params = []; result = None; locals = []; needs = []; gives = []; body = Block [] } ∷ [];
+}

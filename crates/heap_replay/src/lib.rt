@@ -1,0 +1,17 @@
+//! The replay of a start.
+#![tactic(auto)]
+
+mod calling;
+mod code;
+mod exits;
+mod machine;
+mod runs;
+mod statements;
+mod steps;
+mod tasks;
+#[cfg(test)]
+mod tests;
+mod values;
+
+pub use machine::Outcome;
+pub use runs::{RunEnd, run};
