@@ -2,14 +2,21 @@
 //! starts, verdicts and refusals.
 #![tactic(auto)]
 
+mod fault;
+mod line_reader;
 mod parts;
 mod refusal;
 mod report;
 mod state;
+mod state_reader;
 mod status;
+mod value_reader;
 mod writing;
 
+pub use fault::StateFault;
 pub use refusal::refusal_text;
 pub use report::{holds_text, violated_text};
 pub use state::state_text;
+pub use state_reader::read_state;
 pub use status::Status;
+
