@@ -5,3 +5,4 @@ pub mod Pieces
 pub mod Lists
 pub mod Objects
 pub mod StateLines
+pub mod OneStart

@@ -119,3 +119,7 @@ is_inner b = not (b == 32 || b == 10)
 abbrev pub ends : List ℕ → Bool
 ends [] = true
 ends (b ∷ bs) = not (is_inner b)
+
+-- a text says one start at most
+abbrev pub OneStart : Posed → Type 0
+OneStart p = (text : List ℕ) (s t : Start) → IsStateText p text s → IsStateText p text t → s ≡ t
