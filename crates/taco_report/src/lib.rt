@@ -21,3 +21,6 @@ pub use report::{holds_text, violated_text};
 pub use state::state_text;
 pub use state_reader::read_state;
 pub use status::Status;
+
+#[cfg(test)]
+mod tests;
