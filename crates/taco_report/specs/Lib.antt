@@ -2,3 +2,4 @@ pub mod Statuses
 pub mod Texts
 pub mod Reports
 pub mod RefusalLines
+pub mod States

@@ -1,5 +1,5 @@
 -- The one line that a refusal prints.
-use Rattle.std.specs.Prelude.{ℕ, List, [], ◌∷◌, ◌++◌, decimal, codes}
+use Rattle.std.specs.Prelude.{ℕ, List, [], ◌++◌, decimal, codes}
 use Rattle.java_lex.specs.declared.spelling.Absent.{Absent}
 use Rattle.java_lex.specs.declared.spelling.Absent.TheVariants as absent
 use Rattle.typed_expressions.specs.declared.fault.Many.{Many}

@@ -53,7 +53,7 @@ fn add_arguments(
 }
 
 /// The parameters of the method that is judged.
-fn params_in(problem: &Problem) -> &[ParamDef]
+pub(crate) fn params_in(problem: &Problem) -> &[ParamDef]
     ensures { result.now ≡ params_of problem.now }
 {
     match problem.unit.methods.as_slice().get(problem.method as usize) {
@@ -62,13 +62,13 @@ fn params_in(problem: &Problem) -> &[ParamDef]
     }
 }
 
-/// Adds the name of the field of this number.
-fn add_field_name(out: &mut Vec<u8>, problem: &Problem, field: u8) -> Result<(), NoMemory>
-    ensures { OnOk result (out.new.items ≡ out.old.items ++ field_text problem.now field) }
+/// The name of the field of this number.
+pub(crate) fn field_name(problem: &Problem, field: u8) -> &[u8]
+    ensures { result.now ≡ field_text problem.now field }
 {
     match problem.unit.fields.as_slice().get(field as usize) {
-        Some(def) => add(out, def.name.bytes()),
-        None => Ok(()),
+        Some(def) => def.name.bytes(),
+        None => &[],
     }
 }
 
@@ -83,7 +83,7 @@ fn add_cell(
     ensures { OnOk result (out.new.items ≡ out.old.items ++ cell_text problem.now (field, value)) }
 {
     add(out, b" ")?;
-    add_field_name(out, problem, field)?;
+    add(out, field_name(problem, field))?;
     add(out, b"=")?;
     add_value(alloc, out, value)
 }
@@ -106,7 +106,7 @@ fn add_cells(
 }
 
 /// The fields of the class of this number.
-fn fields_in(problem: &Problem, class: u8) -> &[u8]
+pub(crate) fn fields_in(problem: &Problem, class: u8) -> &[u8]
     ensures { result.now ≡ fields_of_class problem.now class }
 {
     match problem.unit.classes.as_slice().get(class as usize) {
