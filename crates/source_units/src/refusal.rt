@@ -24,7 +24,10 @@ impl From<SourceFault> for Unread {
         match fault {
             SourceFault::BadToken { at } => Unread::Refused(Refusal::BadToken { at }),
             SourceFault::Syntax { at } => Unread::Refused(Refusal::Syntax { at }),
-            SourceFault::Unsupported { part, at } => Unread::Refused(Refusal::Unsupported { part, at }),
+            SourceFault::Unsupported { part, at } => Unread::Refused(Refusal::Unsupported {
+                part,
+                at,
+            }),
             SourceFault::Deep { at } => Unread::Refused(Refusal::Deep { at }),
             SourceFault::NoMemory => Unread::NoMemory,
         }
