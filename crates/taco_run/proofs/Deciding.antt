@@ -22,15 +22,14 @@ decided_by : (budget : ℕ) (bytes : List ℕ) (job : Job) (u : Parts) → Reads
     → Says (λ name. Some bytes) (Some (request.Check job budget)) ends output
 decided_by budget bytes job u is short status.NoMethod output checks =
     (checks.0, record { unit = u; short = short; reads = is; lacks = checks.1 })
-decided_by budget bytes job u is short status.Holds output checks =
-    (
-      checks.3.1.0,
-      record {
-        problem = record { unit = u; method = checks.1; scope = job.scope };
-        tried = record { posed = posed bytes job u checks.0 checks.1 is short checks.2; plain = checks.3.0 };
-        not_violable = checks.3.1.1;
-      },
-    )
+decided_by budget bytes job u is short status.Holds output checks = (
+  checks.3.1.0,
+  record {
+    problem = record { unit = u; method = checks.1; scope = job.scope };
+    tried = record { posed = posed bytes job u checks.0 checks.1 is short checks.2; plain = checks.3.0 };
+    not_violable = checks.3.1.1;
+  },
+)
 decided_by budget bytes job u is short status.Violated output checks =
     record {
       problem = record { unit = u; method = checks.1; scope = job.scope };

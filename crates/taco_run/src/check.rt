@@ -9,11 +9,11 @@ use crate::outcome::{Outcome, refusal};
 use boolean_trial::{is_plain, tried};
 use heap_core::Problem;
 use no_memory::NoMemory;
+use source_units::{Unread, unit_of};
 use std::alloc::Global;
 use taco_report::{Status, holds_text, violated_text};
 use taco_unit::Unit;
 use taco_words::Job;
-use source_units::{Unread, unit_of};
 
 /// Tries a method of a unit.
 fn try_method(alloc: Global, unit: Unit, method: u8, job: &Job) -> Result<Outcome, NoMemory>

@@ -90,7 +90,10 @@ fn refusals_have_their_lines(rt: HostRuntime) -> Result<(), Fail> {
         status_of(alloc, untried, &WORDS, 9, &[], &mut sink)?,
         Status::NotBuilt
     );
-    assert_eq!(rt; sink.bytes(), b"nomethod\nusage\nnomethod\nnotbuilt\n".as_slice());
+    assert_eq!(rt;
+        sink.bytes(),
+        b"nomethod\nusage\nnomethod\nnotbuilt\n".as_slice()
+    );
     Ok(())
 }
 
@@ -103,9 +106,18 @@ const REFUSED: [(&str, &str); 13] = [
     ("class A { # }", "source badtoken 10\n"),
     ("class A { int x; boolean x; }", "source twice 25\n"),
     ("class A { int f() { return true; } }", "source kinds 27\n"),
-    ("class A { // #\n int f() { return /* */ \"x\"; } }", "source unsupported text 39\n"),
-    ("class A { void f() { for (;;) { } } }", "source unsupported statement 21\n"),
-    ("class A { //@ pure\n void f() { } }", "source unsupported jml 14\n"),
+    (
+        "class A { // #\n int f() { return /* */ \"x\"; } }",
+        "source unsupported text 39\n",
+    ),
+    (
+        "class A { void f() { for (;;) { } } }",
+        "source unsupported statement 21\n",
+    ),
+    (
+        "class A { //@ pure\n void f() { } }",
+        "source unsupported jml 14\n",
+    ),
     ("class A { double x; }", "source unsupported type 10\n"),
     (
         "class A { void f(int a, int b, int c, int d, int e, int f, int g, int h, int i) { } }",
@@ -146,7 +158,10 @@ fn sixty_four_levels_are_read(rt: HostRuntime) -> Result<(), Fail> {
     let words = ["check", "B.java", "--class", "D", "--method", "f"];
     let mut sink = MemSink::new(alloc, 1000, 99, Vec::new(alloc))?;
     let text = nested(alloc, 64)?;
-    assert_eq!(rt; status_of(alloc, &text, &words, 99, &[], &mut sink)?, Status::Holds);
+    assert_eq!(rt;
+        status_of(alloc, &text, &words, 99, &[], &mut sink)?,
+        Status::Holds
+    );
     assert_eq!(rt; sink.bytes(), HOLDS.as_bytes());
     let mut sink = MemSink::new(alloc, 1000, 99, Vec::new(alloc))?;
     let text = nested(alloc, 65)?;
