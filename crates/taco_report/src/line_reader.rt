@@ -119,7 +119,7 @@ pub(crate) fn object_line<'a>(
         return Ok(None);
     };
     let (word, fields) = word_of(name);
-    let Some(class) = problem.unit.class_named(b"A") else {
+    let Some(class) = problem.unit.class_named(word) else {
         return Ok(None);
     };
     let mut cells = Items::new(alloc);

@@ -13,7 +13,7 @@ use Rattle.taco_words.specs.declared.request.Job.{Job}
 use Rattle.taco_words.specs.declared.request.Request.{Request}
 use Rattle.taco_words.specs.declared.request.Request.TheVariants as request
 use Rattle.taco_run.specs.Decided.{Decides}
-use Rattle.taco_run.specs.Headline.{java_limit, Holding, IsPosed, IsNoText, LacksMethod, Leaves, Answers, Says, Runs}
+use Rattle.taco_run.specs.Headline.{java_limit, Holding, IsTried, IsNotTried, IsRefused, LacksMethod, Leaves, Answers, Says, Runs}
 use Rattle.taco_run.specs.Steps.{IsAnswered, IsSilent, IsOrNoMemory, IsWritten}
 
 -- what holds of these bytes holds of what is told, if it is
@@ -30,7 +30,7 @@ told_too budget content job bytes status.Violated output same says =
       problem = says.problem;
       start = says.start;
       broken = says.broken;
-      posed = lifted bytes (content job.file) (λ b. IsPosed b job says.problem) same says.posed;
+      tried = lifted bytes (content job.file) (λ b. IsTried b job says.problem) same says.tried;
       violates = says.violates;
       report = says.report;
     }
@@ -38,8 +38,10 @@ told_too budget content job bytes status.Done output same says = says
 told_too budget content job bytes status.Broken output same says = says
 told_too budget content job bytes status.Unknown output same says = says
 told_too budget content job bytes status.Usage output same says = says
-told_too budget content job bytes status.NotBuilt output same says = (says.0, lifted bytes (content job.file) IsNoText same says.1)
+told_too budget content job bytes status.NotBuilt output same says = (says.0, lifted bytes (content job.file) (λ b. IsNotTried b job) same says.1)
+told_too budget content job bytes (status.Source refusal) output same says = (says.0, lifted bytes (content job.file) (λ b. IsRefused b refusal) same says.1)
 told_too budget content job bytes status.NoMethod output same says = (says.0, lifted bytes (content job.file) (λ b. LacksMethod b job) same says.1)
+told_too budget content job bytes (status.BadState at) output same says = says
 told_too budget content job bytes (status.BadText slot at) output same says = says
 told_too budget content job bytes (status.TooLong slot) output same says = (says.0, says.1, lifted bytes (content job.file) (λ b. java_limit < length b) same says.2)
 told_too budget content job bytes status.ReadFault output same says = says
@@ -95,6 +97,8 @@ cut_or_not status.Unknown = inr (λ is. cc)
 cut_or_not status.Usage = inr (λ is. cc)
 cut_or_not status.NotBuilt = inr (λ is. cc)
 cut_or_not status.NoMethod = inr (λ is. cc)
+cut_or_not (status.Source refusal) = inr (λ is. cc)
+cut_or_not (status.BadState at) = inr (λ is. cc)
 cut_or_not (status.BadText slot at) = inr (λ is. cc)
 cut_or_not (status.TooLong slot) = inr (λ is. cc)
 cut_or_not status.ReadFault = inr (λ is. cc)
