@@ -5,4 +5,3 @@ pub mod CodeSteps
 pub mod StmtSteps
 pub mod CallSteps
 pub mod WaitSteps
-pub mod Row

@@ -2,4 +2,3 @@ pub mod Onward
 pub mod Cost
 pub mod Tasks
 pub mod Machines
-pub mod Row

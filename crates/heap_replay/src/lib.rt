@@ -9,8 +9,6 @@ mod runs;
 mod statements;
 mod steps;
 mod tasks;
-#[cfg(test)]
-mod tests;
 mod values;
 
 pub use machine::Outcome;

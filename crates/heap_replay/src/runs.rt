@@ -110,7 +110,7 @@ fn step<'a>(
 }
 
 /// Runs a machine to its end. Linear in the steps of the run.
-pub fn run_to_end<'a>(
+fn run_to_end<'a>(
     alloc: Global,
     problem: &'a Problem,
     machine: &mut Machine<'a>,
