@@ -4,3 +4,4 @@ pub mod Lines
 pub mod Joining
 pub mod Formulas
 pub mod Searching
+pub mod Posing

@@ -1,7 +1,5 @@
--- What a check comes to, once its text is read.
-use Rattle.std.specs.Prelude.{◌≡◌, ◌≢◌, ℕ, List, Some, codes}
-use Rattle.taco_unit.specs.Parts.{Parts}
-use Rattle.heap_core.specs.declared.problem.Scope.{Scope}
+-- What a check comes to, once its problem is posed.
+use Rattle.std.specs.Prelude.{◌≡◌, ℕ, List, codes}
 use Rattle.heap_core.specs.declared.start.Start.{Start}
 use Rattle.heap_core.specs.declared.judged.Part.{Part}
 use Rattle.heap_core.specs.Posed.{Posed}
@@ -10,9 +8,6 @@ use Rattle.boolean_trial.specs.Plain.{IsPlain}
 use Rattle.taco_report.specs.declared.status.Status.{Status}
 use Rattle.taco_report.specs.declared.status.Status.TheVariants as status
 use Rattle.taco_run.specs.declared.outcome.Outcome.{Outcome}
-use Rattle.taco_words.specs.declared.request.Job.{Job}
-use Rattle.taco_words.specs.declared.request.Request.TheVariants as request
-use Rattle.taco_run.specs.Headline.{Names, Says}
 use Rattle.taco_report.specs.Texts.{line}
 use Rattle.taco_report.specs.Reports.{no_tuples, holds_report, violated_report}
 
@@ -32,23 +27,10 @@ TellsBy p _ output = ⊥
 pub record Tells (p : Posed) (outcome : Outcome) : Type 0 where
   pub by : TellsBy p outcome.status outcome.output.items
 
--- what a check of a method comes to: it is none of those that are checked so far, or it has a verdict
-abbrev pub MethodBy : Parts → ℕ → Scope → Status → List ℕ → Type 0
-MethodBy u method scope status.NotBuilt output = (output ≡ line (codes "notbuilt")) × (IsPlain u method → ⊥)
-MethodBy u method scope ends output = IsPlain u method × TellsBy (record { unit = u; method = method; scope = scope }) ends output
+-- what a check comes to: the method is none of those that are checked so far, or it has a verdict
+abbrev pub CheckedBy : Posed → Status → List ℕ → Type 0
+CheckedBy p status.NotBuilt output = (output ≡ line (codes "notbuilt")) × (IsPlain p.unit p.method → ⊥)
+CheckedBy p ends output = IsPlain p.unit p.method × TellsBy p ends output
 
-pub record ChecksMethod (u : Parts) (method : ℕ) (scope : Scope) (outcome : Outcome) : Type 0 where
-  pub by : MethodBy u method scope outcome.status outcome.output.items
-
--- what a check of a unit comes to
-abbrev pub ChecksBy : Parts → Job → Status → List ℕ → Type 0
-ChecksBy u job status.NoMethod output = (output ≡ line (codes "nomethod")) × ((class method : ℕ) → Names u job class method → ⊥)
-ChecksBy u job ends output = (class : ℕ) × (method : ℕ) × Names u job class method × MethodBy u method job.scope ends output
-
-pub record Checks (u : Parts) (job : Job) (outcome : Outcome) : Type 0 where
-  pub by : ChecksBy u job outcome.status outcome.output.items
-
--- what a check of a text comes to, whatever its budget: what the table says where these bytes are told
-pub record Decides (bytes : List ℕ) (job : Job) (outcome : Outcome) : Type 0 where
-  pub by : (budget : ℕ) → Says (λ name. Some bytes) (Some (request.Check job budget)) outcome.status outcome.output.items
-  pub no_fault : outcome.status ≢ status.ReadFault
+pub record Checks (p : Posed) (outcome : Outcome) : Type 0 where
+  pub by : CheckedBy p outcome.status outcome.output.items

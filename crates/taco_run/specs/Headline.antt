@@ -4,8 +4,6 @@
 -- sink tells, of the status, and of the evidence. Want of memory is the one free answer.
 use Rattle.std.specs.Prelude.{◌≡◌, ◌≢◌, ℕ, ◌<◌, ◌≤◌, ◌⊎◌, List, [], length, take, Option, Some, None, IfSome, codes}
 use Rattle.std.specs.Io.KnownBytes.{Appends}
-use Rattle.taco_unit.specs.Parts.{Parts}
-use Rattle.taco_unit.specs.Named.{class_number, method_number}
 use Rattle.cnf_core.specs.Clauses.{Clauses}
 use Rattle.heap_core.specs.declared.start.Start.{Start}
 use Rattle.heap_core.specs.declared.judged.Part.{Part}
@@ -15,36 +13,19 @@ use Rattle.taco_io.specs.Counts.{Rose}
 use Rattle.taco_io.specs.Shelf.{Shelf, IsCalm, NameRose}
 use Rattle.taco_io.specs.Taken.{Taken}
 use Rattle.boolean_trial.specs.Plain.{IsPlain}
-use Rattle.refusals.specs.declared.refusal.Refusal.{Refusal}
-use Rattle.source_units.specs.Reading.{Reads, Faulty}
 use Rattle.taco_run.specs.declared.answer.Evidence.{Evidence}
 use Rattle.taco_report.specs.declared.status.Status.{Status}
 use Rattle.taco_report.specs.declared.status.Status.TheVariants as status
 use Rattle.taco_words.specs.declared.request.Job.{Job}
 use Rattle.taco_words.specs.declared.request.Request.{Request}
 use Rattle.taco_words.specs.declared.request.Request.TheVariants as request
+use Rattle.taco_run.specs.Problems.{java_limit, IsPosed, IsRefused, LacksMethod, HoldsProblem}
 use Rattle.taco_run.specs.ProofCommand.{IsTooLong, IsNoFormula, IsNoLog, IsJudged, HoldsFormula, LiesIn}
+use Rattle.taco_run.specs.ReplayCommand.{IsOverLimit, IsReplayed, LacksState}
 use Rattle.taco_run.specs.SatCommand.{IsSearched}
 use Rattle.taco_report.specs.Texts.{line}
 use Rattle.taco_report.specs.Reports.{no_tuples, holds_report, violated_report}
 use Rattle.taco_report.specs.RefusalLines.{refusal_line}
-
--- the most bytes of a Java text
-abbrev pub java_limit : ℕ
-java_limit = 262144
-
--- the class and the method of these names are in the unit, and have these numbers
-pub record Names (u : Parts) (job : Job) (class method : ℕ) : Type 0 where
-  pub the_class : class_number u job.class ≡ Some class
-  pub the_method : method_number u class job.method ≡ Some method
-
--- the bytes are the text of a unit that has the method, and this is the problem
-pub record IsPosed (bytes : List ℕ) (job : Job) (p : Posed) : Type 0 where
-  pub class : ℕ
-  pub short : length bytes ≤ java_limit
-  pub reads : Reads bytes p.unit
-  pub names : Names p.unit job class p.method
-  pub scope : p.scope ≡ job.scope
 
 -- and its method is one of those that are checked so far
 pub record IsTried (bytes : List ℕ) (job : Job) (p : Posed) : Type 0 where
@@ -57,23 +38,11 @@ pub record Holding (bytes : List ℕ) (job : Job) : Type 0 where
   pub tried : IsTried bytes job problem
   pub not_violable : Violable problem → ⊥
 
--- the bytes are the text of a unit that lacks the class, or whose class lacks the method
-pub record LacksMethod (bytes : List ℕ) (job : Job) : Type 0 where
-  pub unit : Parts
-  pub short : length bytes ≤ java_limit
-  pub reads : Reads bytes unit
-  pub lacks : (class method : ℕ) → Names unit job class method → ⊥
-
 -- the bytes are the text of a unit that has the method, which is none of those that are checked so far
 pub record IsNotTried (bytes : List ℕ) (job : Job) : Type 0 where
   pub problem : Posed
   pub posed : IsPosed bytes job problem
   pub not_plain : IsPlain problem.unit problem.method → ⊥
-
--- the bytes are no text of a unit, and this is their first fault
-pub record IsRefused (bytes : List ℕ) (refusal : Refusal) : Type 0 where
-  pub short : length bytes ≤ java_limit
-  pub faulty : Faulty bytes refusal
 
 -- the output tells a start that fits, and a part that breaks from it
 pub record TellsBreach (told : Option (List ℕ)) (job : Job) (output : List ℕ) : Type 0 where
@@ -93,6 +62,9 @@ Says told (Some (request.Check job budget)) status.Violated output = TellsBreach
 -- the log was gone through
 Says told (Some (request.Proof cnf log)) status.Done output = IsJudged told cnf log status.Done output
 Says told (Some (request.Proof cnf log)) status.Broken output = IsJudged told cnf log status.Broken output
+-- the start was replayed
+Says told (Some (request.Replay job state)) status.Done output = IsReplayed told job state status.Done output
+Says told (Some (request.Replay job state)) status.Broken output = IsReplayed told job state status.Broken output
 -- refusals
 Says told None status.Usage output = output ≡ line (codes "usage")
 Says told (Some (request.Check job budget)) status.NotBuilt output = (output ≡ line (codes "notbuilt")) × IfSome (told job.file) (λ bytes. IsNotTried bytes job)
@@ -100,6 +72,10 @@ Says told (Some (request.Check job budget)) (status.Source refusal) output = (ou
 Says told (Some (request.Check job budget)) status.NoMethod output = (output ≡ line (codes "nomethod")) × IfSome (told job.file) (λ bytes. LacksMethod bytes job)
 Says told (Some (request.Check job budget)) (status.TooLong slot) output =
     (output ≡ line (codes "toolong")) × (slot ≡ 0) × IfSome (told job.file) (λ bytes. java_limit < length bytes)
+Says told (Some (request.Replay job state)) (status.Source refusal) output = (output ≡ refusal_line (status.Source refusal)) × IfSome (told job.file) (λ bytes. IsRefused bytes refusal)
+Says told (Some (request.Replay job state)) status.NoMethod output = (output ≡ line (codes "nomethod")) × IfSome (told job.file) (λ bytes. LacksMethod bytes job)
+Says told (Some (request.Replay job state)) (status.BadState at) output = (output ≡ refusal_line (status.BadState at)) × LacksState told job state at
+Says told (Some (request.Replay job state)) (status.TooLong slot) output = (output ≡ line (codes "toolong")) × IsOverLimit told job state slot
 Says told (Some (request.Proof cnf log)) (status.BadText slot at) output =
     (output ≡ refusal_line (status.BadText slot at)) × LiesIn told cnf log slot (λ bytes. IsNoFormula bytes at) (λ vars bytes. IsNoLog vars bytes at)
 Says told (Some (request.Proof cnf log)) (status.TooLong slot) output =
@@ -108,6 +84,7 @@ Says told (Some (request.Sat cnf budget)) (status.BadText slot at) output = (out
 Says told (Some (request.Sat cnf budget)) (status.TooLong slot) output = (output ≡ line (codes "toolong")) × (slot ≡ 0) × IfSome (told cnf) IsTooLong
 -- faults that write nothing
 Says told (Some (request.Check job budget)) status.ReadFault output = output ≡ []
+Says told (Some (request.Replay job state)) status.ReadFault output = output ≡ []
 Says told (Some (request.Proof cnf log)) status.ReadFault output = output ≡ []
 Says told (Some (request.Sat cnf budget)) status.ReadFault output = output ≡ []
 Says told asked status.NoMemory output = output ≡ []
@@ -119,16 +96,19 @@ Answers None told asked ends output = Says told asked ends output
 Answers (Some proof) told (Some (request.Sat cnf budget)) ends output = IsSearched told cnf budget proof ends output
 Answers (Some proof) told _ ends output = ⊥
 
--- the count of a file that is asked about rose; the log is only looked at where the other file holds a formula
+-- the count of a file that is asked about rose; the state is only looked at where the other file holds a problem, and
+-- the log where it holds a formula
 abbrev pub FileRose : Option Request → Shelf → Shelf → Type 0
 FileRose (Some (request.Check job budget)) old new = NameRose job.file old new
+FileRose (Some (request.Replay job state)) old new = NameRose job.file old new ⊎ ((p : Posed) × HoldsProblem old.content job p × NameRose state old new)
 FileRose (Some (request.Proof cnf log)) old new = NameRose cnf old new ⊎ ((formula : Clauses) × HoldsFormula old.content cnf formula × NameRose log old new)
 FileRose (Some (request.Sat cnf budget)) old new = NameRose cnf old new
 FileRose _ old new = ⊥
 
--- the request reads through this slot: FILE and CNF through slot 0, LOG through slot 1
+-- the request reads through this slot: FILE and CNF through slot 0, STATE and LOG through slot 1
 abbrev pub Uses : Option Request → ℕ → Type 0
 Uses (Some (request.Check job budget)) slot = slot ≡ 0
+Uses (Some (request.Replay job state)) slot = (slot ≡ 0) ⊎ (slot ≡ 1)
 Uses (Some (request.Proof cnf log)) slot = (slot ≡ 0) ⊎ (slot ≡ 1)
 Uses (Some (request.Sat cnf budget)) slot = slot ≡ 0
 Uses _ slot = ⊥

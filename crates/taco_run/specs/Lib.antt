@@ -7,3 +7,6 @@ pub mod Headline
 pub mod Decided
 pub mod Steps
 pub mod Searches
+pub mod Problems
+pub mod ReplayCommand
+pub mod Replaying

@@ -3,16 +3,16 @@ use Rattle.std.specs.Prelude.{Bool, true, false, Option, Some, None, if◌then�
 use Rattle.taco_words.specs.declared.request.Request.{Request}
 use Rattle.taco_words.specs.declared.request.Request.TheVariants as request
 
--- `check`, `sat` and `proof` work
+-- `check`, `replay`, `sat` and `proof` work
 abbrev pub is_served : Request → Bool
 is_served (request.Check job budget) = true
 is_served (request.Bounds job schedule) = false
-is_served (request.Replay job state) = false
+is_served (request.Replay job state) = true
 is_served (request.Sat cnf budget) = true
 is_served (request.Proof cnf log) = true
 is_served (request.Stress number) = false
 
--- of these `run_plain` serves `sat` and `proof`
+-- of these `run_plain` serves `replay`, `sat` and `proof`
 abbrev pub is_served_plainly : Request → Bool
 is_served_plainly (request.Check job budget) = false
 is_served_plainly r = is_served r

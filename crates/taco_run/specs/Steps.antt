@@ -12,6 +12,8 @@ use Rattle.taco_report.specs.declared.status.Status.TheVariants as status
 use Rattle.taco_run.specs.declared.outcome.Outcome.{Outcome}
 use Rattle.taco_run.specs.declared.outcome.TextEnd.{TextEnd}
 use Rattle.taco_run.specs.declared.outcome.TextEnd.TheVariants as end
+use Rattle.taco_run.specs.declared.problems.Unposed.{Unposed}
+use Rattle.taco_run.specs.declared.problems.Unposed.TheVariants as unposed
 use Rattle.taco_words.specs.declared.request.Request.{Request}
 use Rattle.taco_run.specs.Headline.{Answers, FileRose, Leaves}
 use Rattle.taco_run.specs.ProofCommand.{IsTooLong}
@@ -84,3 +86,9 @@ EndsText slot (end.BadText at) o = IsEnding (status.BadText slot at) (refusal_li
 EndsText slot end.TooLong o = IsEnding (status.TooLong slot) (line (codes "toolong")) o
 EndsText slot end.Fault o = IsSilent status.ReadFault o
 EndsText slot end.NoMemory o = IsSilent status.NoMemory o
+
+-- how a request ends that poses no problem
+abbrev pub EndsUnposed : Unposed → Outcome → Type 0
+EndsUnposed (unposed.Unread end) o = EndsText 0 end o
+EndsUnposed (unposed.Refused refusal) o = IsEnding (status.Source refusal) (refusal_line (status.Source refusal)) o
+EndsUnposed unposed.NoMethod o = IsEnding status.NoMethod (refusal_line status.NoMethod) o

@@ -1,38 +1,22 @@
-ghost use Rattle.std.specs.Prelude.{◌≡◌, ◌≢◌, ℕ, map, codes, Some, None};
+ghost use Rattle.std.specs.Prelude.{◌≢◌, map, codes, Some};
 ghost use Rattle.taco_report.specs.declared.status.Status.TheVariants as status;
-ghost use Rattle.taco_words.specs.declared.request.Request.TheVariants as request;
 ghost use Rattle.taco_run.specs.Headline.{Runs};
 ghost use Rattle.taco_run.specs.Served.{served, served_plainly};
 ghost use Rattle.taco_run.specs.Steps.{IsAnswered, IsEnding, IsWritten};
 ghost use Rattle.taco_report.specs.Texts.{line};
 ghost use Rattle.taco_words.specs.Asked.{asked};
-ghost use Rattle.taco_words.specs.Limits.{IsScope, IsWithin};
+ghost use Rattle.taco_words.specs.Limits.{IsWithin};
 
 use crate::answer::Answer;
-use crate::check::decide;
-use crate::outcome::{Outcome, Reply, ended, or_no_memory, plain, refusal, silent};
+use crate::check::check_method;
+use crate::outcome::{Outcome, Reply, or_no_memory, plain, refusal, silent};
 use crate::proof_command::check_log;
-use crate::reading::read_file;
+use crate::replay_command::replay_start;
 use crate::sat_command::search_formula;
 use std::alloc::Global;
 use taco_io::{Files, Sink, write_all};
 use taco_report::Status;
-use taco_words::{Job, Request, RequestFault, request_of};
-
-/// The most bytes of a Java text.
-const JAVA_LIMIT: u32 = 262_144;
-
-/// Does a check. A plain method is decided without workers and without a search, so neither the plan
-/// nor a bound on the conflicts changes anything.
-fn check_file<F: Files>(alloc: Global, files: &mut F, job: &Job) -> Outcome
-    requires { IsScope job.now.scope }
-    ensures { (budget : ℕ) → IsAnswered (Some (request.Check job.now budget)) (F.shelf files.old) (F.shelf files.new) None result.status result.output.items }
-{
-    match read_file(alloc, files, 0, job.file.as_str(), JAVA_LIMIT) {
-        Ok(bytes) => or_no_memory(alloc, decide(alloc, &bytes, job)),
-        Err(end) => ended(alloc, 0, end),
-    }
-}
+use taco_words::{Request, RequestFault, request_of};
 
 /// A refusal of words that are no request.
 fn usage(alloc: Global) -> Outcome
@@ -43,13 +27,14 @@ fn usage(alloc: Global) -> Outcome
 
 /// Does a request of those that `run_plain` serves.
 fn plain_answer<F: Files>(alloc: Global, request: &Request, files: &mut F) -> Reply
+    requires { IsWithin request.now }
     ensures { IsAnswered (served_plainly (Some request.now)) (F.shelf files.old) (F.shelf files.new) result.proof result.outcome.status result.outcome.output.items }
 {
     match request {
         Request::Proof(cnf, log) => plain(check_log(alloc, files, cnf, log)),
         Request::Sat(cnf, budget) => search_formula(alloc, files, cnf, *budget),
-        Request::Check(_, _) | Request::Bounds(_, _) | Request::Replay(_, _) | Request::Stress(_) =>
-            plain(usage(alloc)),
+        Request::Replay(job, state) => plain(replay_start(alloc, files, job, state)),
+        Request::Check(_, _) | Request::Bounds(_, _) | Request::Stress(_) => plain(usage(alloc)),
     }
 }
 
@@ -59,7 +44,7 @@ fn answer<F: Files>(alloc: Global, request: &Request, files: &mut F) -> Reply
     ensures { IsAnswered (served (Some request.now)) (F.shelf files.old) (F.shelf files.new) result.proof result.outcome.status result.outcome.output.items }
 {
     match request {
-        Request::Check(job, _) => plain(check_file(alloc, files, job)),
+        Request::Check(job, _) => plain(check_method(alloc, files, job)),
         _ => plain_answer(alloc, request, files),
     }
 }
@@ -100,8 +85,7 @@ fn finish<K: Sink>(sink: &mut K, outcome: &Outcome) -> Status
 /// Does what the words of a command line ask for (`request_of` has the commands and their options).
 /// `check FILE --class C --method M [scope] [plan] [--conflicts B]` prints whether the method keeps its
 /// contract within the scope that was asked for; plan and B change nothing so far. What `run_plain` serves
-/// is done as there. `bounds`, `replay` and `stress`, which are to come, are refused as every other list of
-/// words is. The whole output is made before the first byte is pushed.
+/// is done as there. `bounds` and `stress`, which are to come, are refused as every other list of words is. The whole output is made before the first byte is pushed.
 #[tactic(auto, using(crate::proofs::Joining::ran))]
 pub fn run<F: Files, K: Sink>(alloc: Global, words: &[&str], files: &mut F, sink: &mut K) -> Answer
     ensures { Runs (served (asked (map (λ w. w.now) words.now))) result.proof result.status (F.shelf files.old) (F.shelf files.new) (K.taken sink.old) (K.taken sink.new) }
@@ -111,7 +95,15 @@ pub fn run<F: Files, K: Sink>(alloc: Global, words: &[&str], files: &mut F, sink
     Answer { status, proof }
 }
 
-/// Does what the words of a command line ask for, but for checks: `proof CNF LOG` checks the log in LOG
+/// Does what the words of a command line ask for, but for checks. `replay FILE STATE --class C --method M
+/// [scope]` runs the method on the start that STATE says, and prints the judgement: `judged meets`, `judged
+/// breaks PART` with Broken, `judged notasked` where the start does not meet the precondition, and `judged
+/// outside` where a scope is left. After the first two it prints how the run ended and the heap that it left.
+/// FILE is read through slot 0, and STATE through slot 1 where FILE holds the method; each has at most 262,144
+/// bytes. Refusals in their order: a read fault or `toolong` of FILE, `source ..`, `nomethod`, a read fault or
+/// `toolong` of STATE, and `badstate AT` with the place of the first line that is not right, in bytes.
+///
+/// `proof CNF LOG` checks the log in LOG
 /// over the formula in CNF. It prints `refuted N` where each of the N lines follows from the formula's
 /// clauses and the lines before it and the last one is empty, so that the formula has no solution;
 /// `valid N` where they follow and it is not; both are Done. It prints `badline N` with Broken where line

@@ -6,8 +6,10 @@ mod answer;
 mod call;
 mod check;
 mod outcome;
+mod problems;
 mod proof_command;
 mod reading;
+mod replay_command;
 mod sat_command;
 mod texts;
 

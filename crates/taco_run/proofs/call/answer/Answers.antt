@@ -10,7 +10,7 @@ use Rattle.taco_run.proofs.call.answer.Goals as goal
 pub returns-in-Check : goal.returns-in-Check
 returns-in-Check g c =
     let old : Shelf = g.F.Files.shelf c.args.files.now in
-    let new : Shelf = g.F.Files.shelf c.check_file.new.files in
-    let by_request : Request → Type 0 = λ r. IsAnswered (served (Some r)) old new None c.check_file.result.status c.check_file.result.output.items in
+    let new : Shelf = g.F.Files.shelf c.check_method.new.files in
+    let by_request : Request → Type 0 = λ r. IsAnswered (served (Some r)) old new None c.check_method.result.status c.check_method.result.output.items in
     let by_reply : Reply → Type 0 = λ p. IsAnswered (served (Some c.args.request.now)) old new p.proof p.outcome.status p.outcome.output.items in
-    subst by_reply (sym c.plain.ensures) (subst by_request (sym c.in-Check.is) (c.check_file.ensures c.in-Check.field-1))
+    subst by_reply (sym c.plain.ensures) (subst by_request (sym c.in-Check.is) (c.check_method.ensures c.in-Check.field-1))

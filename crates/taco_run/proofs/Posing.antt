@@ -1,0 +1,139 @@
+-- Requests that pose no problem, and the replay of one that does.
+use Rattle.std.proofs.Common.{◌≡◌, ◌≢◌, ℕ, ◌<◌, List, [], length, Option, Some, None, IfSome, refl, sym, ◌∙◌, subst, arith}
+use Rattle.std.specs.Prelude.{◌⊎◌, Result, Ok, Err, IfOk, codes}
+use Rattle.std.proofs.Common.{inl, inr, ⊎_elim}
+use Rattle.heap_core.specs.declared.judged.Judged.{Judged}
+use Rattle.heap_core.specs.declared.judged.Judged.TheVariants as judged
+use Rattle.heap_core.specs.declared.start.Start.{Start}
+use Rattle.heap_core.specs.Judge.{judged as judged_of}
+use Rattle.heap_core.specs.Posed.{Posed}
+use Rattle.no_memory.specs.declared.NoMemory.{NoMemory}
+use Rattle.refusals.specs.declared.refusal.Refusal.{Refusal}
+use Rattle.taco_io.specs.Counts.{Rose}
+use Rattle.taco_io.specs.Shelf.{Shelf, Stays, IsCalm, NameRose}
+use Rattle.taco_report.specs.declared.status.Status.{Status}
+use Rattle.taco_report.specs.declared.status.Status.TheVariants as status
+use Rattle.taco_report.specs.RefusalLines.{refusal_line}
+use Rattle.taco_report.specs.Texts.{line}
+use Rattle.taco_words.specs.declared.request.Job.{Job}
+use Rattle.taco_words.specs.declared.request.Request.{Request}
+use Rattle.taco_words.specs.declared.request.Request.TheVariants as request
+use Rattle.taco_run.specs.declared.outcome.Outcome.{Outcome}
+use Rattle.taco_run.specs.declared.outcome.TextEnd.{TextEnd}
+use Rattle.taco_run.specs.declared.outcome.TextEnd.TheVariants as end
+use Rattle.taco_run.specs.declared.problems.Unposed.{Unposed}
+use Rattle.taco_run.specs.declared.problems.Unposed.TheVariants as unposed
+use Rattle.taco_run.specs.Problems.{java_limit, IsRefused, LacksMethod, HoldsProblem, FetchesProblem}
+use Rattle.taco_run.specs.ReplayCommand.{state_limit, status_of, IsNoState, IsState}
+use Rattle.taco_run.specs.Replaying.{IsShown, ReplaysText, shown, refused}
+use Rattle.taco_run.specs.Headline.{FileRose, Leaves, Says}
+use Rattle.taco_run.specs.Steps.{EndsText, EndsUnposed, IsAnswered, IsOrNoMemory, ReadsFile}
+use Rattle.taco_run.proofs.Joining.{silent_answered, spoken, spoken_or_silent, unread}
+use Rattle.taco_run.proofs.Deciding.{if_told_more, leaves_check}
+
+-- what a request says of a file that poses no problem
+pub record SaysUnposed (asked : Option Request) (job : Job) (told : List ℕ → Option (List ℕ)) : Type 0 where
+  pub fault : (output : List ℕ) → output ≡ [] → Says told asked status.ReadFault output
+  pub long : IfSome (told job.file) (λ bytes. java_limit < length bytes) → Says told asked (status.TooLong 0) (line (codes "toolong"))
+  pub refused : (r : Refusal) → IfSome (told job.file) (λ bytes. IsRefused bytes r) → Says told asked (status.Source r) (refusal_line (status.Source r))
+  pub lacks : IfSome (told job.file) (λ bytes. LacksMethod bytes job) → Says told asked status.NoMethod (refusal_line status.NoMethod)
+
+unposed_answered : (asked : Option Request) (job : Job) (old new : Shelf) (why : Unposed) (o : Outcome) → SaysUnposed asked job old.content → (NameRose job.file old new → FileRose asked old new)
+    → Leaves asked old new → FetchesProblem job old new (Err why) → EndsUnposed why o → IsAnswered asked old new None o.status o.output.items
+unposed_answered asked job old new (unposed.Refused r) o says rose leaves fetches ends =
+    spoken_or_silent asked old new o (status.Source r) (refusal_line (status.Source r)) (λ is. cc) fetches.1 leaves ends (says.refused r fetches.0)
+unposed_answered asked job old new unposed.NoMethod o says rose leaves fetches ends =
+    spoken_or_silent asked old new o status.NoMethod (refusal_line status.NoMethod) (λ is. cc) fetches.1 leaves ends (says.lacks fetches.0)
+unposed_answered asked job old new (unposed.Unread end.TooLong) o says rose leaves fetches ends =
+    spoken_or_silent asked old new o (status.TooLong 0) (line (codes "toolong")) (λ is. cc) fetches.1 leaves ends (says.long fetches.0)
+unposed_answered asked job old new (unposed.Unread (end.BadText at)) o says rose leaves fetches ends = absurd fetches
+unposed_answered asked job old new (unposed.Unread end.Fault) o says rose leaves fetches ends =
+    unread asked old new o (rose fetches) leaves ends (says.fault o.output.items ends.silent)
+unposed_answered asked job old new (unposed.Unread end.NoMemory) o says rose leaves fetches ends = silent_answered asked old new o fetches leaves ends
+
+-- a check that poses no problem
+pub check_unposed : (budget : ℕ) (job : Job) (old new : Shelf) (why : Unposed) (o : Outcome) → Stays 0 old new → FetchesProblem job old new (Err why) → EndsUnposed why o
+    → IsAnswered (Some (request.Check job budget)) old new None o.status o.output.items
+check_unposed budget job old new why o stays =
+    unposed_answered (Some (request.Check job budget)) job old new why o
+    (record { fault = λ output is. is; long = λ told. (refl, refl, told); refused = λ r told. (refl, told); lacks = λ told. (refl, told) }) (λ rose. rose)
+    (leaves_check job budget old new stays)
+
+-- a replay uses both slots
+leaves_first : (job : Job) (state : List ℕ) (old new : Shelf) → Stays 0 old new → Leaves (Some (request.Replay job state)) old new
+leaves_first job state old new stays = record {
+  content = stays.content;
+  faults = stays.faults;
+  name = λ slot other. stays.name slot (λ is. other (inl is));
+  rest = λ slot other. stays.rest slot (λ is. other (inl is));
+}
+
+leaves_both : (job : Job) (state : List ℕ) (old mid new : Shelf) → Stays 0 old mid → Stays 1 mid new → Leaves (Some (request.Replay job state)) old new
+leaves_both job state old mid new first second = record {
+  content = λ name. second.content name ∙ first.content name;
+  faults = λ name. let a = first.faults name in let b = second.faults name in omega (arith, a, b);
+  name = λ slot other. second.name slot (λ is. other (inr is)) ∙ first.name slot (λ is. other (inl is));
+  rest = λ slot other. second.rest slot (λ is. other (inr is)) ∙ first.rest slot (λ is. other (inl is));
+}
+
+-- a replay that poses no problem
+pub replay_unposed : (job : Job) (state : List ℕ) (old new : Shelf) (why : Unposed) (o : Outcome) → Stays 0 old new → FetchesProblem job old new (Err why) → EndsUnposed why o
+    → IsAnswered (Some (request.Replay job state)) old new None o.status o.output.items
+replay_unposed job state old new why o stays =
+    unposed_answered (Some (request.Replay job state)) job old new why o
+    (record { fault = λ output is. is; long = λ told. (refl, inl (refl, told)); refused = λ r told. (refl, told); lacks = λ told. (refl, told) }) inl
+    (leaves_first job state old new stays)
+
+-- the state's file as the first reading left it is as it was
+told_before : (job : Job) (state : List ℕ) (old mid : Shelf) (P : List ℕ → Type 0) → Stays 0 old mid → IfSome (mid.content state) P → IfSome (old.content state) P
+told_before job state old mid P stays = subst (λ t. IfSome t P) (stays.content state)
+
+calm_both : (old mid new : Shelf) → IsCalm old mid → IsCalm mid new → IsCalm old new
+calm_both old mid new first second name = second name ∙ first name
+
+-- the state's file gave no text
+pub state_unread : (job : Job) (state : List ℕ) (old mid new : Shelf) (p : Posed) (e : TextEnd) (o : Outcome) → HoldsProblem old.content job p → IsCalm old mid → Stays 0 old mid → Stays 1 mid new
+    → ReadsFile state state_limit mid new (Err e) → EndsText 1 e o → IsAnswered (Some (request.Replay job state)) old new None o.status o.output.items
+state_unread job state old mid new p end.TooLong o posed calm first second reads ends =
+    spoken_or_silent (Some (request.Replay job state)) old new o (status.TooLong 1) (line (codes "toolong")) (λ is. cc) (calm_both old mid new calm reads.1) (leaves_both job state old mid new first second) ends
+    (refl, inr (p, refl, posed, told_before job state old mid (λ bytes. state_limit < length bytes) first reads.0))
+state_unread job state old mid new p (end.BadText at) o posed calm first second reads ends = absurd reads
+state_unread job state old mid new p end.Fault o posed calm first second reads ends =
+    unread (Some (request.Replay job state)) old new o (inr (p, posed, subst (λ n. Rose n (new.faults state)) (calm state) reads)) (leaves_both job state old mid new first second) ends ends.silent
+state_unread job state old mid new p end.NoMemory o posed calm first second reads ends =
+    silent_answered (Some (request.Replay job state)) old new o (calm_both old mid new calm reads) (leaves_both job state old mid new first second) ends
+
+-- the status of a judgement
+done_or_broken : (j : Judged) → (status_of j ≡ status.Done) ⊎ (status_of j ≡ status.Broken)
+done_or_broken judged.Outside = inl refl
+done_or_broken judged.NotAsked = inl refl
+done_or_broken (judged.Breaks part) = inr refl
+done_or_broken judged.Meets = inl refl
+
+-- what holds of these bytes holds of what is told, if it is
+lifted : {P : List ℕ → Type 0} (bytes : List ℕ) (told : Option (List ℕ)) → IfSome told (λ xs. bytes ≡ xs) → P bytes → IfSome told P
+lifted {P} bytes told same holds = if_told_more told (λ xs is. subst P is holds) same
+
+-- the text of a state was read
+replay_read : (job : Job) (state : List ℕ) (old new : Shelf) (p : Posed) (bytes : List ℕ) (o : Outcome) → HoldsProblem old.content job p → IfSome (old.content state) (λ xs. bytes ≡ xs)
+    → IsCalm old new → Leaves (Some (request.Replay job state)) old new → ReplaysText p bytes o → IsAnswered (Some (request.Replay job state)) old new None o.status o.output.items
+replay_read job state old new p bytes o posed told calm leaves (shown s is tells) =
+    let state_is : IfSome (old.content state) (λ xs. IsState p xs s) = lifted {λ xs. IsState p xs s} bytes (old.content state) told is in
+    ⊎_elim
+    (λ done. spoken (Some (request.Replay job state)) old new o status.Done (λ fault. cc) calm leaves (tells.status_is ∙ done)
+        (record { problem = p; start = s; posed = posed; state_is = state_is; ends_is = sym done; output_is = tells.told }))
+    (λ broken. spoken (Some (request.Replay job state)) old new o status.Broken (λ fault. cc) calm leaves (tells.status_is ∙ broken)
+        (record { problem = p; start = s; posed = posed; state_is = state_is; ends_is = sym broken; output_is = tells.told }))
+    (done_or_broken (judged_of p s))
+replay_read job state old new p bytes o posed told calm leaves (refused at none tells) =
+    spoken (Some (request.Replay job state)) old new o (status.BadState at) (λ fault. cc) calm leaves tells.status_is
+    (tells.told, record { problem = p; posed = posed; no_state = lifted {λ xs. IsNoState p xs at} bytes (old.content state) told none })
+
+pub replay_ok : (job : Job) (state : List ℕ) (old mid new : Shelf) (p : Posed) (bytes : List ℕ) (r : Result Outcome NoMemory) (o : Outcome) → HoldsProblem old.content job p → IsCalm old mid
+    → Stays 0 old mid → Stays 1 mid new → IfSome (mid.content state) (λ xs. bytes ≡ xs) → IsCalm mid new → IfOk r (ReplaysText p bytes) → IsOrNoMemory r o
+    → IsAnswered (Some (request.Replay job state)) old new None o.status o.output.items
+replay_ok job state old mid new p bytes (Ok d) o posed calm first second told calm_too replays is =
+    subst (λ (x : Outcome). IsAnswered (Some (request.Replay job state)) old new None x.status x.output.items) (sym is)
+    (replay_read job state old new p bytes d posed (told_before job state old mid (λ xs. bytes ≡ xs) first told) (calm_both old mid new calm calm_too) (leaves_both job state old mid new first second) replays)
+replay_ok job state old mid new p bytes (Err none) o posed calm first second told calm_too replays silent =
+    silent_answered (Some (request.Replay job state)) old new o (calm_both old mid new calm calm_too) (leaves_both job state old mid new first second) silent
