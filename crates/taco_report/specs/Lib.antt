@@ -3,3 +3,4 @@ pub mod Texts
 pub mod Reports
 pub mod RefusalLines
 pub mod States
+pub mod Replays
