@@ -21,8 +21,8 @@ use Rattle.heap_core.specs.Heap.{Heap, is_of}
 use Rattle.heap_core.specs.Outcomes.{in_bits}
 use Rattle.heap_core.specs.Posed.{InRange, Posed}
 use Rattle.heap_core.specs.Start.{Fits, has_field_kind, has_kind, is_argument, is_receiver, is_whole, method_of}
-use Rattle.taco_report.specs.Texts.{params_of, state_text}
-use Rattle.taco_report.specs.States.{IsStateText, is_cell, is_given, is_listed, is_named, is_receiver_named, is_value}
+use Rattle.taco_report.specs.Texts.{state_text}
+use Rattle.taco_report.specs.States.{IsStateText, is_cell, is_given, is_listed, is_named, is_value}
 
 -- what passes the one test pairwise passes the other
 pointwise_weaker : {A B : Type 0} (p q : A → B → Bool) → ((x : A) (y : B) → p x y ≡ true → q x y ≡ true) → (xs : List A) (ys : List B) → pointwise p xs ys ≡ true → pointwise q xs ys ≡ true

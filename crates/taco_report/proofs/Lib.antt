@@ -8,3 +8,4 @@ pub mod StateLines
 pub mod OneStart
 pub mod FittingStarts
 pub mod NeverRefused
+pub mod Pairs

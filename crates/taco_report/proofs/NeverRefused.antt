@@ -1,5 +1,5 @@
 -- A text all of whose lines are right, of a start that fits, has no line at which it may be refused.
-use Rattle.std.proofs.Common.{◌≡◌, ◌≢◌, ℕ, suc, ◌+◌, ◌^◌, ◌<◌, ◌≤◌, true, Some, Err, List, [], ◌∷◌, ◌++◌, length, take, flat_map, refl, sym, ap, subst, ◌∙◌, append_assoc, append-nil, arith}
+use Rattle.std.proofs.Common.{◌≡◌, ℕ, ◌+◌, ◌^◌, ◌<◌, true, Some, Err, List, [], ◌∷◌, ◌++◌, length, take, flat_map, sym, ap, subst, ◌∙◌, append_assoc, append-nil, arith}
 use Rattle.std.specs.Prelude.{slice_get, zip}
 use Rattle.std.specs.List.{enumerate_from, list_all}
 use Rattle.std.specs.Cmp.Lexicographic.{pointwise}

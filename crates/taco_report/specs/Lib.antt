@@ -4,3 +4,4 @@ pub mod Reports
 pub mod RefusalLines
 pub mod States
 pub mod Replays
+pub mod Pairs
