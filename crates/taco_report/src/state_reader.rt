@@ -3,7 +3,6 @@ ghost use Rattle.std.specs.Cmp.Lexicographic.{pointwise};
 ghost use Rattle.std.specs.List.{list_all};
 ghost use Rattle.heap_core.specs.declared.start.Start.{Start};
 ghost use Rattle.heap_core.specs.declared.value.Object.{Object};
-ghost use Rattle.heap_core.specs.Posed.{InRange};
 ghost use Rattle.heap_core.specs.Start.{Fits};
 ghost use Rattle.taco_report.specs.Texts.{argument_line as argument_line_of, object_line as object_line_of, params_of, state_text};
 ghost use Rattle.taco_report.specs.declared.fault.StateFault.TheVariants as f;
@@ -11,9 +10,7 @@ ghost use Rattle.taco_unit.specs.declared.unit.ParamDef.{ParamDef};
 ghost use Rattle.taco_report.specs.States.{BlamesState, IsReadAs, IsStateText, NoLine, argument_lines as argument_lines_of, is_given, is_listed, object_lines as object_lines_of};
 
 use crate::fault::StateFault;
-use crate::line_reader::{
-    argument_line, count_line, names_stand_apart, object_line, receiver_line,
-};
+use crate::line_reader::{argument_line, count_line, object_line, receiver_line, well_posed};
 use crate::state::params_in;
 use heap_core::{Object, Problem, Start, Value};
 use no_memory::NoMemory;
@@ -69,14 +66,6 @@ fn argument_lines<'a>(
     Ok((args, rest))
 }
 
-/// The scope's numbers are in their ranges, so that a start that fits has objects and numbers of which
-/// a text can tell.
-fn scope_is_small(problem: &Problem)
-    ensures { InRange problem.now }
-{
-    let _scope = problem.scope;
-}
-
 /// The refusal of a text at the place where its last bytes begin.
 fn bad_state(text: &[u8], rest: &[u8]) -> StateFault
     requires fits { length text.now ≤ 67108864 }
@@ -99,8 +88,7 @@ pub fn read_state(alloc: Global, problem: &Problem, text: &[u8]) -> Result<Start
     ensures fault { IfErr result (BlamesState problem.now text.now) }
     ensures whole { (s : Start) → Fits s problem.now → text.now ≡ state_text problem.now s → IsReadAs result s }
 {
-    names_stand_apart(problem);
-    scope_is_small(problem);
+    well_posed(problem);
     let Some((count, lines)) = count_line(alloc, text)? else {
         return Err(StateFault::BadState { at: 0 });
     };

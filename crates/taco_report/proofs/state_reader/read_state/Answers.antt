@@ -95,19 +95,19 @@ returns-else-fits-clause-fault c =
     subst (BlamesState c.args.problem.now c.args.text.now) (sym c.bad_state-else-fits.ensures) (unfit start text misfits at)
 
 pub returns-then-len-from-clause-whole : goal.returns-then-len-from-clause-whole
-returns-then-len-from-clause-whole c = read_fault c.args.problem.now c.args.text.now c.bad_state.result c.names_stand_apart.ensures c.scope_is_small.ensures (returns-then-len-from-clause-fault c)
+returns-then-len-from-clause-whole c = read_fault c.args.problem.now c.args.text.now c.bad_state.result c.well_posed.ensures.unit c.well_posed.ensures.scope (returns-then-len-from-clause-fault c)
 
 pub returns-in_default-2-clause-whole : goal.returns-in_default-2-clause-whole
-returns-in_default-2-clause-whole c = read_fault c.args.problem.now c.args.text.now c.bad_state-in_default-2.result c.names_stand_apart.ensures c.scope_is_small.ensures (returns-in_default-2-clause-fault c)
+returns-in_default-2-clause-whole c = read_fault c.args.problem.now c.args.text.now c.bad_state-in_default-2.result c.well_posed.ensures.unit c.well_posed.ensures.scope (returns-in_default-2-clause-fault c)
 
 pub returns-then-len-params_in-clause-whole : goal.returns-then-len-params_in-clause-whole
-returns-then-len-params_in-clause-whole c = read_fault c.args.problem.now c.args.text.now c.bad_state-then-len-params_in.result c.names_stand_apart.ensures c.scope_is_small.ensures (returns-then-len-params_in-clause-fault c)
+returns-then-len-params_in-clause-whole c = read_fault c.args.problem.now c.args.text.now c.bad_state-then-len-params_in.result c.well_posed.ensures.unit c.well_posed.ensures.scope (returns-then-len-params_in-clause-fault c)
 
 pub returns-then-not-is_empty-clause-whole : goal.returns-then-not-is_empty-clause-whole
-returns-then-not-is_empty-clause-whole c = read_fault c.args.problem.now c.args.text.now c.bad_state-then-not-is_empty.result c.names_stand_apart.ensures c.scope_is_small.ensures (returns-then-not-is_empty-clause-fault c)
+returns-then-not-is_empty-clause-whole c = read_fault c.args.problem.now c.args.text.now c.bad_state-then-not-is_empty.result c.well_posed.ensures.unit c.well_posed.ensures.scope (returns-then-not-is_empty-clause-fault c)
 
 pub returns-else-fits-clause-whole : goal.returns-else-fits-clause-whole
-returns-else-fits-clause-whole c = read_fault c.args.problem.now c.args.text.now c.bad_state-else-fits.result c.names_stand_apart.ensures c.scope_is_small.ensures (returns-else-fits-clause-fault c)
+returns-else-fits-clause-whole c = read_fault c.args.problem.now c.args.text.now c.bad_state-else-fits.result c.well_posed.ensures.unit c.well_posed.ensures.scope (returns-else-fits-clause-fault c)
 
 pub returns-then-fits-clause-whole : goal.returns-then-fits-clause-whole
-returns-then-fits-clause-whole c = read_start c.args.problem.now c.args.text.now (record { objects = c.in_ok-objects.objects; this = c.in-Some-2.this; args = c.in_ok-args.args }) c.names_stand_apart.ensures c.scope_is_small.ensures (returns-then-fits-clause-read c)
+returns-then-fits-clause-whole c = read_start c.args.problem.now c.args.text.now (record { objects = c.in_ok-objects.objects; this = c.in-Some-2.this; args = c.in_ok-args.args }) c.well_posed.ensures.unit c.well_posed.ensures.scope (returns-then-fits-clause-read c)
