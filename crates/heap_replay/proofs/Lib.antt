@@ -5,3 +5,4 @@ pub mod CodeSteps
 pub mod StmtSteps
 pub mod CallSteps
 pub mod WaitSteps
+pub mod Judging

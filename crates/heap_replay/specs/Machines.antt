@@ -1,5 +1,5 @@
 -- What a machine comes to.
-use Rattle.std.specs.Prelude.{◌≡◌, ℕ, suc, ◌+◌, ◌-◌, ◌<◌, Bool, List, map, sum_by, slice_get, Option, Some, None, option_map}
+use Rattle.std.specs.Prelude.{◌≡◌, ℕ, suc, ◌+◌, ◌-◌, ◌≤◌, ◌<◌, Bool, List, length, map, sum_by, slice_get, Option, Some, None, option_map}
 use Rattle.std.specs.Option.{option_map_or}
 use Rattle.std.specs.Borrow.{Bor}
 use Rattle.taco_unit.specs.declared.expr.Op.{Op}
@@ -9,6 +9,7 @@ use Rattle.taco_unit.specs.declared.stmt.Stmt.{Stmt}
 use Rattle.taco_unit.specs.declared.unit.MethodDef.{MethodDef}
 use Rattle.heap_core.specs.declared.value.Value.{Value}
 use Rattle.heap_core.specs.Posed.{Posed}
+use Rattle.heap_core.specs.Heap.{Heap}
 use Rattle.heap_core.specs.Exec.{Memory, Ends, Gives, Throws, Leaves, Exit, Goes, then_with, on_object, gives_in, read, write, make, entered, call_of, after, in_turn, set_local, stepped, step_field, give_back, run_body, calls}
 use Rattle.heap_replay.specs.declared.machine.Activation.{Activation}
 use Rattle.heap_replay.specs.declared.machine.Machine.{Machine}
@@ -66,6 +67,10 @@ cost p m (task.Give v) = 1 + waiting p m
 cost p m task.Go = 1 + waiting p m
 cost p m (task.Return v) = 1 + waiting p m
 cost p m (task.End o) = 0
+
+-- a heap has no more objects than the scope, where another has no more
+abbrev pub StaysWithin : Posed → Heap → Heap → Type 0
+StaysWithin p before after = length before ≤ p.scope.objects → length after ≤ p.scope.objects
 
 -- the machine comes to the same, and has fewer steps left than so many
 pub record Keeps (p : Posed) (whole : Whole) (most : ℕ) (m : Machine) (t : Task) : Type 0 where

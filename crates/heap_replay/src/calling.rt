@@ -44,7 +44,8 @@ fn begin<'a>(
     wanted: bool,
 ) -> Result<Task<'a>, NoMemory>
     requires { 0 < machine.old.frame.left }
-    ensures { IfOk result (Begun machine.old method.now this args wanted machine.new) }
+    ensures step { IfOk result (Begun machine.old method.now this args wanted machine.new) }
+    ensures heap { machine.new.heap.items ≡ machine.old.heap.items }
 {
     let locals = first_locals(args, method.locals.as_slice())?;
     let left = machine.frame.left - 1;
@@ -75,7 +76,8 @@ fn start<'a>(
     args: Items<Value>,
     wanted: bool,
 ) -> Result<Task<'a>, NoMemory>
-    ensures { IfOk result (Started problem.now machine.old method this args wanted machine.new) }
+    ensures step { IfOk result (Started problem.now machine.old method this args wanted machine.new) }
+    ensures heap { machine.new.heap.items ≡ machine.old.heap.items }
 {
     if machine.frame.left == 0 {
         return Ok(Task::End(Outcome::Unknown));
@@ -98,7 +100,8 @@ fn enter<'a>(
     args: Items<Value>,
     wanted: bool,
 ) -> Result<Task<'a>, NoMemory>
-    ensures { IfOk result (Entered problem.now machine.old method target args wanted machine.new) }
+    ensures step { IfOk result (Entered problem.now machine.old method target args wanted machine.new) }
+    ensures heap { machine.new.heap.items ≡ machine.old.heap.items }
 {
     match target {
         Some(Value::Null) => Ok(Task::End(Outcome::Thrown)),
@@ -124,7 +127,8 @@ pub fn call_on<'a>(
     rest: &'a [Expr],
     wanted: bool,
 ) -> Result<Task<'a>, NoMemory>
-    ensures { IfOk result (Argued problem.now machine.old method target args rest.now wanted machine.new) }
+    ensures step { IfOk result (Argued problem.now machine.old method target args rest.now wanted machine.new) }
+    ensures heap { machine.new.heap.items ≡ machine.old.heap.items }
 {
     match rest {
         [] => {
@@ -153,7 +157,8 @@ pub fn call<'a>(
     call: &'a Call,
     wanted: bool,
 ) -> Result<Task<'a>, NoMemory>
-    ensures { IfOk result (Called problem.now machine.old call.now wanted machine.new) }
+    ensures step { IfOk result (Called problem.now machine.old call.now wanted machine.new) }
+    ensures heap { machine.new.heap.items ≡ machine.old.heap.items }
 {
     let method = call.method;
     let rest = call.args.as_slice();

@@ -1,6 +1,6 @@
 ghost use Rattle.std.specs.Prelude.{◌≡◌, IfOk, slice_get};
 ghost use Rattle.heap_core.specs.Outcomes.{number as number_lem};
-ghost use Rattle.heap_replay.specs.Machines.{Evaluated, Made};
+ghost use Rattle.heap_replay.specs.Machines.{Evaluated, Made, StaysWithin};
 
 use crate::calling::call;
 use crate::machine::{Machine, Outcome, Task, Wait};
@@ -19,7 +19,8 @@ fn make<'a>(
     machine: &mut Machine<'a>,
     class: u8,
 ) -> Result<Task<'a>, NoMemory>
-    ensures { IfOk result (Made problem.now machine.old class machine.new) }
+    ensures step { IfOk result (Made problem.now machine.old class machine.new) }
+    ensures within { StaysWithin problem.now machine.old.heap.items machine.new.heap.items }
 {
     match grow(alloc, problem, &mut machine.heap, class)? {
         Some(object) => Ok(Task::Give(Value::Obj(object))),
@@ -48,7 +49,8 @@ pub fn evaluate<'a>(
     machine: &mut Machine<'a>,
     expr: &'a Expr,
 ) -> Result<Task<'a>, NoMemory>
-    ensures { IfOk result (Evaluated problem.now machine.old expr.now machine.new) }
+    ensures step { IfOk result (Evaluated problem.now machine.old expr.now machine.new) }
+    ensures within { StaysWithin problem.now machine.old.heap.items machine.new.heap.items }
 {
     match expr {
         Expr::Num(z) => Ok(given(literal(problem, *z))),

@@ -1,4 +1,4 @@
-ghost use Rattle.std.specs.Prelude.{IfOk};
+ghost use Rattle.std.specs.Prelude.{◌≡◌, IfOk};
 ghost use Rattle.heap_replay.specs.Machines.{Went, WentAgain, WentBack, Unwound};
 
 use crate::machine::{Activation, Machine, Outcome, Task, Wait};
@@ -16,7 +16,8 @@ fn again<'a>(
     test: &'a Expr,
     body: &'a Stmt,
 ) -> Result<Task<'a>, NoMemory>
-    ensures { IfOk result (WentAgain machine.old turns test.entry body.entry machine.new) }
+    ensures step { IfOk result (WentAgain machine.old turns test.entry body.entry machine.new) }
+    ensures heap { machine.new.heap.items ≡ machine.old.heap.items }
 {
     let task = evaluate_for(machine, Wait::Turn(turns, test, body), test)?;
     Ok(task)
@@ -29,7 +30,8 @@ fn go_back<'a>(
     wanted: bool,
     value: Option<Value>,
 ) -> Task<'a>
-    ensures { WentBack machine.old caller wanted value machine.new result }
+    ensures step { WentBack machine.old caller wanted value machine.new result }
+    ensures heap { machine.new.heap.items ≡ machine.old.heap.items }
 {
     machine.frame = caller;
     given_back(wanted, value)
@@ -37,7 +39,8 @@ fn go_back<'a>(
 
 /// One step from the end of a statement, for which this waits.
 pub fn go_on<'a>(machine: &mut Machine<'a>, wait: Wait<'a>) -> Result<Task<'a>, NoMemory>
-    ensures { IfOk result (Went machine.old wait.entry machine.new) }
+    ensures step { IfOk result (Went machine.old wait.entry machine.new) }
+    ensures heap { machine.new.heap.items ≡ machine.old.heap.items }
 {
     match wait {
         Wait::Rest(rest) => {
@@ -59,7 +62,8 @@ pub fn go_on<'a>(machine: &mut Machine<'a>, wait: Wait<'a>) -> Result<Task<'a>, 
 
 /// One step from a `return`, for which this waits or which it lets pass.
 pub fn unwind<'a>(machine: &mut Machine<'a>, wait: Wait<'a>, value: Option<Value>) -> Task<'a>
-    ensures { Unwound machine.old wait.entry value machine.new result }
+    ensures step { Unwound machine.old wait.entry value machine.new result }
+    ensures heap { machine.new.heap.items ≡ machine.old.heap.items }
 {
     match wait {
         Wait::Caller {

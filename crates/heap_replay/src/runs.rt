@@ -3,7 +3,7 @@ ghost use Rattle.heap_core.specs.Start.{method_of};
 ghost use Rattle.heap_replay.specs.Onward.{otherwise_of as otherwise_of_lem};
 ghost use Rattle.heap_replay.specs.Tasks.{outcome_of as outcome_of_lem};
 ghost use Rattle.heap_replay.specs.declared.machine.Task.TheVariants as t;
-ghost use Rattle.heap_replay.specs.Machines.{Steps, Comes, Runs};
+ghost use Rattle.heap_replay.specs.Machines.{Steps, Comes, Runs, StaysWithin};
 
 use crate::calling::{first_locals, otherwise_of};
 use crate::code::evaluate;
@@ -44,7 +44,8 @@ fn give<'a>(
     machine: &mut Machine<'a>,
     value: Value,
 ) -> Result<Task<'a>, NoMemory>
-    ensures { IfOk result (Steps problem.now machine.old (t.Give value) machine.new) }
+    ensures step { IfOk result (Steps problem.now machine.old (t.Give value) machine.new) }
+    ensures within { StaysWithin problem.now machine.old.heap.items machine.new.heap.items }
 {
     match machine.waits.pop() {
         Some(wait) => {
@@ -57,7 +58,8 @@ fn give<'a>(
 
 /// One step from the end of a statement.
 fn go<'a>(problem: &'a Problem, machine: &mut Machine<'a>) -> Result<Task<'a>, NoMemory>
-    ensures { IfOk result (Steps problem.now machine.old t.Go machine.new) }
+    ensures step { IfOk result (Steps problem.now machine.old t.Go machine.new) }
+    ensures heap { machine.new.heap.items ≡ machine.old.heap.items }
 {
     match machine.waits.pop() {
         Some(wait) => {
@@ -70,7 +72,8 @@ fn go<'a>(problem: &'a Problem, machine: &mut Machine<'a>) -> Result<Task<'a>, N
 
 /// One step from a `return`.
 fn give_up<'a>(problem: &Problem, machine: &mut Machine<'a>, value: Option<Value>) -> Task<'a>
-    ensures { Steps problem.now machine.old (t.Return value) machine.new result }
+    ensures step { Steps problem.now machine.old (t.Return value) machine.new result }
+    ensures heap { machine.new.heap.items ≡ machine.old.heap.items }
 {
     match machine.waits.pop() {
         Some(wait) => unwind(machine, wait, value),
@@ -85,7 +88,8 @@ fn step<'a>(
     machine: &mut Machine<'a>,
     task: Task<'a>,
 ) -> Result<Task<'a>, NoMemory>
-    ensures { IfOk result (Steps problem.now machine.old task.entry machine.new) }
+    ensures step { IfOk result (Steps problem.now machine.old task.entry machine.new) }
+    ensures within { StaysWithin problem.now machine.old.heap.items machine.new.heap.items }
 {
     match task {
         Task::Evaluate(expr) => {
@@ -116,7 +120,8 @@ fn run_to_end<'a>(
     machine: &mut Machine<'a>,
     task: Task<'a>,
 ) -> Result<Outcome, NoMemory>
-    ensures { IfOk result (Comes problem.now machine.old task.entry machine.new) }
+    ensures step { IfOk result (Comes problem.now machine.old task.entry machine.new) }
+    ensures within { StaysWithin problem.now machine.old.heap.items machine.new.heap.items }
 {
     let mut task = task;
     loop {
@@ -165,7 +170,8 @@ fn run_method(
     start: &Start,
 ) -> Result<RunEnd, NoMemory>
     requires { method_of problem.now ≡ Some method.now }
-    ensures { IfOk result (Runs problem.now start.now) }
+    ensures run { IfOk result (Runs problem.now start.now) }
+    ensures within { IfOk result (λ r. StaysWithin problem.now start.now.objects r.heap) }
 {
     let args = Items::from_slice(alloc, start.args.as_slice())?;
     let locals = first_locals(args, method.locals.as_slice())?;
@@ -196,7 +202,7 @@ fn item_at(methods: &[MethodDef], at: usize) -> &MethodDef
 }
 
 /// The method that is run.
-fn method_at(problem: &Problem) -> &MethodDef
+pub fn method_at(problem: &Problem) -> &MethodDef
     ensures { method_of problem.now ≡ Some result.now }
 {
     item_at(problem.unit.methods.as_slice(), usize::from(problem.method))
@@ -205,7 +211,8 @@ fn method_at(problem: &Problem) -> &MethodDef
 /// Runs the method of a problem on a start. How the run ends, with the heap that it leaves, which
 /// nobody speaks of where the run leaves the scope. Linear in the steps of the run.
 pub fn run(alloc: Global, problem: &Problem, start: &Start) -> Result<RunEnd, NoMemory>
-    ensures { IfOk result (Runs problem.now start.now) }
+    ensures run { IfOk result (Runs problem.now start.now) }
+    ensures within { IfOk result (λ r. StaysWithin problem.now start.now.objects r.heap) }
 {
     let method = method_at(problem);
     let run = run_method(alloc, problem, method, start)?;

@@ -1,5 +1,5 @@
 ghost use Rattle.std.specs.Prelude.{◌≡◌, ◌≤◌, IfOk};
-ghost use Rattle.heap_replay.specs.Machines.{Executed, Blocks, LocalSet, LocalStepped, Stored, HeldStepped, FieldStepped, GivenBack};
+ghost use Rattle.heap_replay.specs.Machines.{Executed, Blocks, LocalSet, LocalStepped, Stored, HeldStepped, FieldStepped, GivenBack, StaysWithin};
 ghost use Rattle.heap_replay.specs.Tasks.{step as step_lem};
 
 use crate::calling::call;
@@ -14,7 +14,8 @@ use taco_unit::{Expr, Op, Stmt};
 
 /// The statements of a block are executed, one after the other.
 pub fn execute_all<'a>(machine: &mut Machine<'a>, stmts: &'a [Stmt]) -> Result<Task<'a>, NoMemory>
-    ensures { IfOk result (Blocks machine.old stmts.now machine.new) }
+    ensures step { IfOk result (Blocks machine.old stmts.now machine.new) }
+    ensures heap { machine.new.heap.items ≡ machine.old.heap.items }
 {
     match stmts {
         [] => Ok(Task::Go),
@@ -27,7 +28,8 @@ pub fn execute_all<'a>(machine: &mut Machine<'a>, stmts: &'a [Stmt]) -> Result<T
 
 /// A local is set.
 pub fn set_local<'a>(machine: &mut Machine<'a>, local: u8, value: Value) -> Task<'a>
-    ensures { LocalSet machine.old local value machine.new result }
+    ensures step { LocalSet machine.old local value machine.new result }
+    ensures heap { machine.new.heap.items ≡ machine.old.heap.items }
 {
     let local = usize::from(local);
     if local < machine.frame.locals.len() {
@@ -53,7 +55,8 @@ fn stepped(ints: u8, up: bool, value: Value) -> Seen
 
 /// A local is stepped.
 fn step_local<'a>(problem: &Problem, machine: &mut Machine<'a>, local: u8, up: bool) -> Task<'a>
-    ensures { LocalStepped problem.now machine.old local up machine.new result }
+    ensures step { LocalStepped problem.now machine.old local up machine.new result }
+    ensures heap { machine.new.heap.items ≡ machine.old.heap.items }
 {
     let Some(value) = local_at(machine.frame.locals.as_slice(), local) else {
         return Task::End(Outcome::Unknown);
@@ -73,7 +76,8 @@ pub fn store<'a>(
     target: Value,
     value: Value,
 ) -> Task<'a>
-    ensures { Stored problem.now machine.old field target value machine.new result }
+    ensures step { Stored problem.now machine.old field target value machine.new result }
+    ensures within { StaysWithin problem.now machine.old.heap.items machine.new.heap.items }
 {
     match target {
         Value::Obj(object) => {
@@ -96,7 +100,8 @@ fn step_held<'a>(
     up: bool,
     object: u8,
 ) -> Task<'a>
-    ensures { HeldStepped problem.now machine.old field up object machine.new result }
+    ensures step { HeldStepped problem.now machine.old field up object machine.new result }
+    ensures within { StaysWithin problem.now machine.old.heap.items machine.new.heap.items }
 {
     let Some(held) = read(&problem.unit, machine.heap.as_slice(), field, object) else {
         return Task::End(Outcome::Unknown);
@@ -116,7 +121,8 @@ pub fn step_field<'a>(
     up: bool,
     target: Value,
 ) -> Task<'a>
-    ensures { FieldStepped problem.now machine.old field up target machine.new result }
+    ensures step { FieldStepped problem.now machine.old field up target machine.new result }
+    ensures within { StaysWithin problem.now machine.old.heap.items machine.new.heap.items }
 {
     match target {
         Value::Obj(object) => step_held(problem, machine, field, up, object),
@@ -134,7 +140,8 @@ fn turns_of(problem: &Problem) -> u8
 
 /// The value is returned, where there is one.
 fn give_back<'a>(machine: &mut Machine<'a>, value: &'a Option<Expr>) -> Result<Task<'a>, NoMemory>
-    ensures { IfOk result (GivenBack machine.old value.now machine.new) }
+    ensures step { IfOk result (GivenBack machine.old value.now machine.new) }
+    ensures heap { machine.new.heap.items ≡ machine.old.heap.items }
 {
     match value {
         None => Ok(Task::Return(None)),
@@ -152,7 +159,8 @@ pub fn execute<'a>(
     machine: &mut Machine<'a>,
     stmt: &'a Stmt,
 ) -> Result<Task<'a>, NoMemory>
-    ensures { IfOk result (Executed problem.now machine.old stmt.now machine.new) }
+    ensures step { IfOk result (Executed problem.now machine.old stmt.now machine.new) }
+    ensures heap { machine.new.heap.items ≡ machine.old.heap.items }
 {
     match stmt {
         Stmt::Block(parts) => {

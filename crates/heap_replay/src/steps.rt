@@ -1,4 +1,4 @@
-ghost use Rattle.std.specs.Prelude.{IfOk};
+ghost use Rattle.std.specs.Prelude.{◌≡◌, IfOk};
 ghost use Rattle.heap_replay.specs.Machines.{Evaluates, Executes};
 
 use crate::machine::{Machine, Task, Wait};
@@ -11,7 +11,8 @@ pub fn evaluate_for<'a>(
     wait: Wait<'a>,
     expr: &'a Expr,
 ) -> Result<Task<'a>, NoMemory>
-    ensures { IfOk result (Evaluates machine.old expr.now wait.entry machine.new) }
+    ensures step { IfOk result (Evaluates machine.old expr.now wait.entry machine.new) }
+    ensures heap { machine.new.heap.items ≡ machine.old.heap.items }
 {
     machine.waits.push(wait)?;
     Ok(Task::Evaluate(expr))
@@ -23,7 +24,8 @@ pub fn execute_before<'a>(
     wait: Wait<'a>,
     stmt: &'a Stmt,
 ) -> Result<Task<'a>, NoMemory>
-    ensures { IfOk result (Executes machine.old stmt.now wait.entry machine.new) }
+    ensures step { IfOk result (Executes machine.old stmt.now wait.entry machine.new) }
+    ensures heap { machine.new.heap.items ≡ machine.old.heap.items }
 {
     machine.waits.push(wait)?;
     Ok(Task::Execute(stmt))

@@ -1,6 +1,6 @@
 ghost use Rattle.std.specs.Prelude.{◌≡◌, IfOk};
 ghost use Rattle.heap_replay.specs.Tasks.{as_truth, branched};
-ghost use Rattle.heap_replay.specs.Machines.{Resumed, OnRead, OnRight, OnTurn};
+ghost use Rattle.heap_replay.specs.Machines.{Resumed, OnRead, OnRight, OnTurn, StaysWithin};
 
 use crate::calling::call_on;
 use crate::machine::{Machine, Outcome, Task, Wait};
@@ -34,7 +34,8 @@ fn right_of<'a>(
     second: &'a Expr,
     value: Value,
 ) -> Result<Task<'a>, NoMemory>
-    ensures { IfOk result (OnRight machine.old op second.entry value machine.new) }
+    ensures step { IfOk result (OnRight machine.old op second.entry value machine.new) }
+    ensures heap { machine.new.heap.items ≡ machine.old.heap.items }
 {
     match (op, value) {
         (Op::And, Value::Flag(false)) | (Op::Or, Value::Flag(true)) => Ok(Task::Give(value)),
@@ -79,7 +80,8 @@ fn turn<'a>(
     body: &'a Stmt,
     value: Value,
 ) -> Result<Task<'a>, NoMemory>
-    ensures { IfOk result (OnTurn machine.old turns test.entry body.entry value machine.new) }
+    ensures step { IfOk result (OnTurn machine.old turns test.entry body.entry value machine.new) }
+    ensures heap { machine.new.heap.items ≡ machine.old.heap.items }
 {
     match value {
         Value::Flag(false) => Ok(Task::Go),
@@ -102,7 +104,8 @@ pub fn resume<'a>(
     wait: Wait<'a>,
     value: Value,
 ) -> Result<Task<'a>, NoMemory>
-    ensures { IfOk result (Resumed problem.now machine.old wait.entry value machine.new) }
+    ensures step { IfOk result (Resumed problem.now machine.old wait.entry value machine.new) }
+    ensures within { StaysWithin problem.now machine.old.heap.items machine.new.heap.items }
 {
     let ints = problem.scope.ints;
     match wait {

@@ -18,8 +18,8 @@ use Rattle.heap_replay.proofs.CallSteps.{begun_at}
 use Rattle.heap_replay.specs.declared.machine.Wait.TheVariants as w
 use Rattle.heap_replay.proofs.calling.begin.Goals as goal
 
-pub returns : goal.returns
-returns c =
+pub returns-clause-step : goal.returns-clause-step
+returns-clause-step c =
     begun_at c.args.machine.now c.args.method.now c.args.this c.args.args c.args.wanted c.in_ok-locals.locals c.replace-caller.new.dest c.push.new.self _ refl
     (c.in_ok-locals.ensures ∙ ap (λ z. c.args.args ++ map zero_of z) c.as_slice.ensures)
     c.replace-caller.ensures.after

@@ -17,6 +17,6 @@ use Rattle.heap_replay.proofs.Costs.{cost_num, cost_flag, cost_null, cost_this, 
 use Rattle.heap_replay.proofs.CallSteps.{started_at}
 use Rattle.heap_replay.proofs.calling.start.Goals as goal
 
-pub returns-in_ok-task-in-Some : goal.returns-in_ok-task-in-Some
-returns-in_ok-task-in-Some c =
-    started_at c.args.problem.now c.args.machine.now c.begin.new.machine c.in_ok-task-in-Some.task c.args.method c.args.this c.args.args c.args.wanted c.in-Some.d.now (omega arith) (sym c.in-Some.ensures) c.in_ok-task-in-Some.ensures
+pub returns-in_ok-task-in-Some-clause-step : goal.returns-in_ok-task-in-Some-clause-step
+returns-in_ok-task-in-Some-clause-step c =
+    started_at c.args.problem.now c.args.machine.now c.begin.new.machine c.in_ok-task-in-Some.task c.args.method c.args.this c.args.args c.args.wanted c.in-Some.d.now (omega arith) (sym c.in-Some.ensures) c.in_ok-task-in-Some.ensures.step

@@ -19,69 +19,69 @@ use Rattle.heap_replay.proofs.Costs.{cost_num, cost_flag, cost_null, cost_this, 
 use Rattle.heap_replay.proofs.CodeSteps.{evaluated_as, gained_at, gives_seen, gives_value, gives_nothing, gives_local, read_at, neg_at, not_at, bin_at, call_at}
 use Rattle.heap_replay.proofs.code.evaluate.Goals as goal
 
-pub returns-in-Num : goal.returns-in-Num
-returns-in-Num c =
+pub returns-in-Num-clause-step : goal.returns-in-Num-clause-step
+returns-in-Num-clause-step c =
     evaluated_as c.args.problem.now c.args.machine.now c.args.machine.now _ _ _ c.in-Num.is
     (gained_at c.args.problem.now c.args.machine.now c.args.machine.now _ (e.Num c.in-Num.z) (ends_as (memory c.args.machine.now) (number c.args.problem.now.scope.ints c.in-Num.z)) (code_num c.args.problem.now (calls c.args.problem.now c.args.machine.now.frame.left) c.in-Num.z (frame_of c.args.machine.now.frame) (memory c.args.machine.now)) (cost_num (call_cost c.args.problem.now c.args.machine.now.frame.left) c.in-Num.z) (let is : c.given.result ≡ given (number c.args.problem.now.scope.ints c.in-Num.z) = c.given.ensures ∙ ap given (c.literal.ensures ∙ ap (number c.args.problem.now.scope.ints) (let fits : SFits w32 c.in-Num.z = search rules in to_z-of_z w32 c.in-Num.z fits)) in rw is (gives_seen c.args.problem.now c.args.machine.now (number c.args.problem.now.scope.ints c.in-Num.z))))
 
-pub returns-in-Flag : goal.returns-in-Flag
-returns-in-Flag c =
+pub returns-in-Flag-clause-step : goal.returns-in-Flag-clause-step
+returns-in-Flag-clause-step c =
     evaluated_as c.args.problem.now c.args.machine.now c.args.machine.now _ _ _ c.in-Flag.is
     (gained_at c.args.problem.now c.args.machine.now c.args.machine.now _ (e.Flag c.in-Flag.b) (Gives (v.Flag c.in-Flag.b) (memory c.args.machine.now)) (code_flag c.args.problem.now (calls c.args.problem.now c.args.machine.now.frame.left) c.in-Flag.b (frame_of c.args.machine.now.frame) (memory c.args.machine.now)) (cost_flag (call_cost c.args.problem.now c.args.machine.now.frame.left) c.in-Flag.b) (gives_value c.args.problem.now c.args.machine.now (v.Flag c.in-Flag.b)))
 
-pub returns-in-Null : goal.returns-in-Null
-returns-in-Null c =
+pub returns-in-Null-clause-step : goal.returns-in-Null-clause-step
+returns-in-Null-clause-step c =
     evaluated_as c.args.problem.now c.args.machine.now c.args.machine.now _ _ _ c.in-Null.is
     (gained_at c.args.problem.now c.args.machine.now c.args.machine.now _ (e.Null) (Gives v.Null (memory c.args.machine.now)) (code_null c.args.problem.now (calls c.args.problem.now c.args.machine.now.frame.left) (frame_of c.args.machine.now.frame) (memory c.args.machine.now)) (cost_null (call_cost c.args.problem.now c.args.machine.now.frame.left)) (gives_value c.args.problem.now c.args.machine.now v.Null))
 
-pub returns-in-This : goal.returns-in-This
-returns-in-This c =
+pub returns-in-This-clause-step : goal.returns-in-This-clause-step
+returns-in-This-clause-step c =
     evaluated_as c.args.problem.now c.args.machine.now c.args.machine.now _ _ _ c.in-This.is
     (gained_at c.args.problem.now c.args.machine.now c.args.machine.now _ (e.This) (Gives c.args.machine.now.frame.this (memory c.args.machine.now)) (code_this c.args.problem.now (calls c.args.problem.now c.args.machine.now.frame.left) (frame_of c.args.machine.now.frame) (memory c.args.machine.now)) (cost_this (call_cost c.args.problem.now c.args.machine.now.frame.left)) (gives_value c.args.problem.now c.args.machine.now c.args.machine.now.frame.this))
 
-pub returns-in-Local : goal.returns-in-Local
-returns-in-Local c =
+pub returns-in-Local-clause-step : goal.returns-in-Local-clause-step
+returns-in-Local-clause-step c =
     evaluated_as c.args.problem.now c.args.machine.now c.args.machine.now _ _ _ c.in-Local.is
     (gained_at c.args.problem.now c.args.machine.now c.args.machine.now _ (e.Local c.in-Local.i) (gives_in (slice_get c.args.machine.now.frame.locals c.in-Local.i) (memory c.args.machine.now)) (code_local c.args.problem.now (calls c.args.problem.now c.args.machine.now.frame.left) c.in-Local.i (frame_of c.args.machine.now.frame) (memory c.args.machine.now)) (cost_local (call_cost c.args.problem.now c.args.machine.now.frame.left) c.in-Local.i) (let is : c.given_in.result ≡ given_in (slice_get c.args.machine.now.frame.locals c.in-Local.i) = c.given_in.ensures ∙ ap given_in (c.local_at.ensures ∙ ap (λ z. slice_get z c.in-Local.i) c.as_slice.ensures) in rw is (gives_local c.args.problem.now c.args.machine.now (slice_get c.args.machine.now.frame.locals c.in-Local.i))))
 
-pub returns-in_ok-task-in-Read : goal.returns-in_ok-task-in-Read
-returns-in_ok-task-in-Read c =
+pub returns-in_ok-task-in-Read-clause-step : goal.returns-in_ok-task-in-Read-clause-step
+returns-in_ok-task-in-Read-clause-step c =
     let is : c.args.expr.now ≡ e.Read c.get.result.now c.in-Read.f = c.in-Read.is ∙ ap (λ z. e.Read z c.in-Read.f) (sym c.get.ensures) in
     evaluated_as c.args.problem.now c.args.machine.now c.evaluate_for.new.machine c.in_ok-task-in-Read.task _ _ is
-    (read_at c.args.problem.now c.args.machine.now c.evaluate_for.new.machine c.in_ok-task-in-Read.task c.get.result.now c.in-Read.f (c.in_ok-task-in-Read.ensures c.args.problem.now))
+    (read_at c.args.problem.now c.args.machine.now c.evaluate_for.new.machine c.in_ok-task-in-Read.task c.get.result.now c.in-Read.f (c.in_ok-task-in-Read.ensures.step c.args.problem.now))
 
-pub returns-in_ok-task-in-Neg : goal.returns-in_ok-task-in-Neg
-returns-in_ok-task-in-Neg c =
+pub returns-in_ok-task-in-Neg-clause-step : goal.returns-in_ok-task-in-Neg-clause-step
+returns-in_ok-task-in-Neg-clause-step c =
     let is : c.args.expr.now ≡ e.Neg c.get-in-Neg.result.now = c.in-Neg.is ∙ ap (λ z. e.Neg z) (sym c.get-in-Neg.ensures) in
     evaluated_as c.args.problem.now c.args.machine.now c.evaluate_for-in-Neg.new.machine c.in_ok-task-in-Neg.task _ _ is
-    (neg_at c.args.problem.now c.args.machine.now c.evaluate_for-in-Neg.new.machine c.in_ok-task-in-Neg.task c.get-in-Neg.result.now (c.in_ok-task-in-Neg.ensures c.args.problem.now))
+    (neg_at c.args.problem.now c.args.machine.now c.evaluate_for-in-Neg.new.machine c.in_ok-task-in-Neg.task c.get-in-Neg.result.now (c.in_ok-task-in-Neg.ensures.step c.args.problem.now))
 
-pub returns-in_ok-task-in-Not : goal.returns-in_ok-task-in-Not
-returns-in_ok-task-in-Not c =
+pub returns-in_ok-task-in-Not-clause-step : goal.returns-in_ok-task-in-Not-clause-step
+returns-in_ok-task-in-Not-clause-step c =
     let is : c.args.expr.now ≡ e.Not c.get-in-Not.result.now = c.in-Not.is ∙ ap (λ z. e.Not z) (sym c.get-in-Not.ensures) in
     evaluated_as c.args.problem.now c.args.machine.now c.evaluate_for-in-Not.new.machine c.in_ok-task-in-Not.task _ _ is
-    (not_at c.args.problem.now c.args.machine.now c.evaluate_for-in-Not.new.machine c.in_ok-task-in-Not.task c.get-in-Not.result.now (c.in_ok-task-in-Not.ensures c.args.problem.now))
+    (not_at c.args.problem.now c.args.machine.now c.evaluate_for-in-Not.new.machine c.in_ok-task-in-Not.task c.get-in-Not.result.now (c.in_ok-task-in-Not.ensures.step c.args.problem.now))
 
-pub returns-in_ok-task-in-Bin : goal.returns-in_ok-task-in-Bin
-returns-in_ok-task-in-Bin c =
+pub returns-in_ok-task-in-Bin-clause-step : goal.returns-in_ok-task-in-Bin-clause-step
+returns-in_ok-task-in-Bin-clause-step c =
     let is : c.args.expr.now ≡ e.Bin c.in-Bin.op c.get-in-Bin-2.result.now c.get-in-Bin.result.now =
     c.in-Bin.is ∙ ap (λ z. e.Bin c.in-Bin.op z c.in-Bin.b) (sym c.get-in-Bin-2.ensures) ∙ ap (λ z. e.Bin c.in-Bin.op c.get-in-Bin-2.result.now z) (sym c.get-in-Bin.ensures)
     in
     evaluated_as c.args.problem.now c.args.machine.now c.evaluate_for-in-Bin.new.machine c.in_ok-task-in-Bin.task _ _ is
-    (bin_at c.args.problem.now c.args.machine.now c.evaluate_for-in-Bin.new.machine c.in_ok-task-in-Bin.task c.in-Bin.op c.get-in-Bin-2.result.now c.get-in-Bin.result.now (c.in_ok-task-in-Bin.ensures c.args.problem.now))
+    (bin_at c.args.problem.now c.args.machine.now c.evaluate_for-in-Bin.new.machine c.in_ok-task-in-Bin.task c.in-Bin.op c.get-in-Bin-2.result.now c.get-in-Bin.result.now (c.in_ok-task-in-Bin.ensures.step c.args.problem.now))
 
-pub returns-in_ok-task-in-New : goal.returns-in_ok-task-in-New
-returns-in_ok-task-in-New c =
+pub returns-in_ok-task-in-New-clause-step : goal.returns-in_ok-task-in-New-clause-step
+returns-in_ok-task-in-New-clause-step c =
     evaluated_as c.args.problem.now c.args.machine.now c.make.new.machine _ _ _ c.in-New.is
-    (gained_at c.args.problem.now c.args.machine.now c.make.new.machine _ (e.New c.in-New.class) (make c.args.problem.now c.in-New.class (memory c.args.machine.now)) (code_new c.args.problem.now (calls c.args.problem.now c.args.machine.now.frame.left) c.in-New.class (frame_of c.args.machine.now.frame) (memory c.args.machine.now)) (cost_new (call_cost c.args.problem.now c.args.machine.now.frame.left) c.in-New.class) (c.in_ok-task-in-New.ensures))
+    (gained_at c.args.problem.now c.args.machine.now c.make.new.machine _ (e.New c.in-New.class) (make c.args.problem.now c.in-New.class (memory c.args.machine.now)) (code_new c.args.problem.now (calls c.args.problem.now c.args.machine.now.frame.left) c.in-New.class (frame_of c.args.machine.now.frame) (memory c.args.machine.now)) (cost_new (call_cost c.args.problem.now c.args.machine.now.frame.left) c.in-New.class) (c.in_ok-task-in-New.ensures.step))
 
-pub returns-in_ok-task-in-Call : goal.returns-in_ok-task-in-Call
-returns-in_ok-task-in-Call c =
+pub returns-in_ok-task-in-Call-clause-step : goal.returns-in_ok-task-in-Call-clause-step
+returns-in_ok-task-in-Call-clause-step c =
     evaluated_as c.args.problem.now c.args.machine.now c.call.new.machine c.in_ok-task-in-Call.task _ _ c.in-Call.is
-    (call_at c.args.problem.now c.args.machine.now c.call.new.machine c.in_ok-task-in-Call.task c.in-Call.c c.in_ok-task-in-Call.ensures)
+    (call_at c.args.problem.now c.args.machine.now c.call.new.machine c.in_ok-task-in-Call.task c.in-Call.c c.in_ok-task-in-Call.ensures.step)
 
-pub returns-in-Result : goal.returns-in-Result
-returns-in-Result c =
+pub returns-in-Result-clause-step : goal.returns-in-Result-clause-step
+returns-in-Result-clause-step c =
     elim c.in-Result.is [
       | inl h ↦ evaluated_as c.args.problem.now c.args.machine.now c.args.machine.now _ _ _ h (gained_at c.args.problem.now c.args.machine.now c.args.machine.now _ (e.Result) Leaves (code_result c.args.problem.now (calls c.args.problem.now c.args.machine.now.frame.left) (frame_of c.args.machine.now.frame) (memory c.args.machine.now)) (cost_result (call_cost c.args.problem.now c.args.machine.now.frame.left)) (gives_nothing c.args.problem.now c.args.machine.now))
       | inr r ↦ elim r [

@@ -2,5 +2,5 @@ use Rattle.std.proofs.Common.{◌≡◌, refl, ap, sym, ◌∙◌, arith}
 use Rattle.heap_replay.proofs.WaitSteps.{back_at}
 use Rattle.heap_replay.proofs.exits.go_back.Goals as goal
 
-pub returns : goal.returns
-returns c p = rw c.given_back.ensures (back_at p c.args.machine.now c.args.caller c.args.wanted c.args.value)
+pub returns-clause-step : goal.returns-clause-step
+returns-clause-step c p = rw c.given_back.ensures (back_at p c.args.machine.now c.args.caller c.args.wanted c.args.value)

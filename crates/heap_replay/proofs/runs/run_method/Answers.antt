@@ -8,8 +8,8 @@ use Rattle.heap_replay.specs.Machines.{ends_with}
 use Rattle.heap_replay.proofs.WaitSteps.{whole_run}
 use Rattle.heap_replay.proofs.runs.run_method.Goals as goal
 
-pub returns : goal.returns
-returns c =
+pub returns-clause-run : goal.returns-clause-run
+returns-clause-run c =
     let m : Machine = record {
       waits = c.new-waits.result;
       frame = record { this = c.args.start.now.this; locals = c.in_ok-locals.locals; left = c.calls_of-left.result };
@@ -22,7 +22,7 @@ returns c =
     record {
       same =
           ap (λ z. ends_with c.in_ok-outcome.outcome (record { heap = z })) c.from_vec-heap.ensures
-          ∙ c.in_ok-outcome.ensures.same
+          ∙ c.in_ok-outcome.ensures.step.same
           ∙ whole_run c.args.problem.now c.args.start.now c.args.method.now m c.args.method.now.body c.requires refl c.new-waits.ensures
           (ap (λ z. first z c.calls_of-left.result) locals ∙ ap (first (c.args.start.now.args ++ map zero_of c.args.method.now.locals)) c.calls_of-left.ensures)
           (c.in_ok-heap.ensures ∙ c.as_slice-3.ensures);

@@ -17,5 +17,5 @@ use Rattle.heap_replay.proofs.Costs.{cost_num, cost_flag, cost_null, cost_this, 
 use Rattle.heap_replay.proofs.StmtSteps.{given_at}
 use Rattle.heap_replay.proofs.statements.give_back.Goals as goal
 
-pub returns-in_ok-task-in-Some : goal.returns-in_ok-task-in-Some
-returns-in_ok-task-in-Some c p = rw c.in-Some.is (given_at p c.args.machine.now c.evaluate_for.new.machine c.in_ok-task-in-Some.task c.in-Some.a (c.in_ok-task-in-Some.ensures p))
+pub returns-in_ok-task-in-Some-clause-step : goal.returns-in_ok-task-in-Some-clause-step
+returns-in_ok-task-in-Some-clause-step c p = rw c.in-Some.is (given_at p c.args.machine.now c.evaluate_for.new.machine c.in_ok-task-in-Some.task c.in-Some.a (c.in_ok-task-in-Some.ensures.step p))

@@ -17,11 +17,11 @@ use Rattle.heap_replay.proofs.Costs.{cost_num, cost_flag, cost_null, cost_this, 
 use Rattle.heap_replay.proofs.StmtSteps.{turn_true}
 use Rattle.heap_replay.proofs.values.turn.Goals as goal
 
-pub returns-in_ok-task-in-Flag-true : goal.returns-in_ok-task-in-Flag-true
-returns-in_ok-task-in-Flag-true c p =
+pub returns-in_ok-task-in-Flag-true-clause-step : goal.returns-in_ok-task-in-Flag-true-clause-step
+returns-in_ok-task-in-Flag-true-clause-step c p =
     rw (c.in-Flag-true.is, c.in-Flag-true.field-0-test)
-    (turn_true c.args.machine.now c.execute_before.new.machine c.in_ok-task-in-Flag-true.task c.args.turns c.args.test c.args.body p (omega arith) (c.in_ok-task-in-Flag-true.ensures p))
+    (turn_true c.args.machine.now c.execute_before.new.machine c.in_ok-task-in-Flag-true.task c.args.turns c.args.test c.args.body p (omega arith) (c.in_ok-task-in-Flag-true.ensures.step p))
 
-pub returns-in-Flag-false : goal.returns-in-Flag-false
+pub returns-in-Flag-false-clause-step : goal.returns-in-Flag-false-clause-step
 unfolding cost_of_turns
-returns-in-Flag-false c p = rw (c.in-Flag-false.is, c.in-Flag-false.field-0-test) (record { same = refl; fewer = omega arith })
+returns-in-Flag-false-clause-step c p = rw (c.in-Flag-false.is, c.in-Flag-false.field-0-test) (record { same = refl; fewer = omega arith })
