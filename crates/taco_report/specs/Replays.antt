@@ -1,11 +1,12 @@
 -- The report of a replay: the judgement, and of a run that is judged how it ended and the heap that it left.
-use Rattle.std.specs.Prelude.{ℕ, Bool, true, false, List, [], ◌++◌, codes, if◌then◌else◌}
+use Rattle.std.specs.Prelude.{ℕ, List, [], ◌++◌, codes, if◌then◌else◌}
 use Rattle.heap_core.specs.declared.judged.Judged.{Judged}
 use Rattle.heap_core.specs.declared.judged.Judged.TheVariants as judged
 use Rattle.heap_core.specs.Posed.{Posed}
 use Rattle.heap_replay.specs.declared.machine.Outcome.{Outcome}
 use Rattle.heap_replay.specs.declared.machine.Outcome.TheVariants as outcome
 use Rattle.heap_replay.specs.declared.replays.Replayed.{Replayed}
+use Rattle.heap_replay.specs.Replays.{is_of_run}
 use Rattle.taco_report.specs.Texts.{line, value_text, heap_text}
 use Rattle.taco_report.specs.Reports.{part_text}
 
@@ -20,13 +21,6 @@ judged_text p judged.Outside = codes "outside"
 abbrev pub judged_line : Posed → Judged → List ℕ
 judged_line p j = line (codes "judged " ++ judged_text p j)
 
--- the run is judged by the contract
-abbrev pub is_told : Judged → Bool
-is_told judged.Meets = true
-is_told (judged.Breaks part) = true
-is_told judged.NotAsked = false
-is_told judged.Outside = false
-
 -- what a run gives: a value, none from a method without a result, or an exception; no words where it is not known
 abbrev pub outcome_text : Outcome → List ℕ
 outcome_text (outcome.Value v) = value_text v
@@ -39,4 +33,4 @@ result_line r = line (codes "result " ++ outcome_text r)
 
 -- the report of a replay
 abbrev pub replay_text_of : Posed → Replayed → List ℕ
-replay_text_of p r = judged_line p r.judged ++ (if is_told r.judged then result_line r.result ++ heap_text p r.end_heap else [])
+replay_text_of p r = judged_line p r.judged ++ (if is_of_run r.judged then result_line r.result ++ heap_text p r.end_heap else [])

@@ -1,5 +1,6 @@
 ghost use Rattle.std.specs.Prelude.{◌≡◌, ◌++◌, IfOk, OnOk};
-ghost use Rattle.taco_report.specs.Replays.{is_told as is_told_of, judged_line, replay_text_of, result_line};
+ghost use Rattle.heap_replay.specs.Replays.{is_of_run as is_of_run_lem};
+ghost use Rattle.taco_report.specs.Replays.{judged_line, replay_text_of, result_line};
 
 use crate::parts::add_part;
 use crate::state::add_heap;
@@ -31,9 +32,9 @@ fn add_judged(
     add(out, b"\n")
 }
 
-/// Whether the run is judged by the contract.
-fn is_told(judged: Judged) -> bool
-    ensures { result ≡ is_told_of judged }
+/// Whether the judgement is one of the run.
+fn is_of_run(judged: Judged) -> bool
+    ensures { result ≡ is_of_run_lem judged }
 {
     match judged {
         Judged::Meets | Judged::Breaks(_) => true,
@@ -68,7 +69,7 @@ pub fn replay_text(
 {
     let mut out = Vec::new(alloc);
     add_judged(alloc, &mut out, problem, replayed.judged)?;
-    if is_told(replayed.judged) {
+    if is_of_run(replayed.judged) {
         add_outcome(alloc, &mut out, replayed.result)?;
         add_heap(alloc, &mut out, problem, replayed.end_heap.as_slice())?;
     }
