@@ -6,3 +6,6 @@ pub mod Lists
 pub mod Objects
 pub mod StateLines
 pub mod OneStart
+pub mod FittingStarts
+pub mod NeverRefused
+pub mod Pairs

@@ -3,3 +3,5 @@ pub mod Texts
 pub mod Reports
 pub mod RefusalLines
 pub mod States
+pub mod Replays
+pub mod Pairs

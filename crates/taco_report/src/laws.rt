@@ -1,6 +1,6 @@
 ghost use Rattle.taco_report.specs.States.{OneStart};
 
-use crate::line_reader::names_stand_apart;
+use crate::line_reader::well_posed;
 use heap_core::Problem;
 
 /// A law: a start has one text, which is `state_text` of it, and a text says one start at most. So
@@ -8,5 +8,5 @@ use heap_core::Problem;
 pub fn a_state_has_one_text_and_a_text_one_start(problem: &Problem)
     ensures { OneStart problem.now }
 {
-    names_stand_apart(problem);
+    well_posed(problem);
 }

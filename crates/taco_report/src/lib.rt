@@ -1,5 +1,5 @@
 //! The statuses with which the program ends, and the texts that it prints and reads of problems,
-//! starts, verdicts and refusals.
+//! starts, verdicts, replays and refusals.
 #![tactic(auto)]
 
 mod fault;
@@ -7,6 +7,7 @@ mod laws;
 mod line_reader;
 mod parts;
 mod refusal;
+mod replay;
 mod report;
 mod state;
 mod state_reader;
@@ -17,6 +18,7 @@ mod writing;
 pub use fault::StateFault;
 pub use laws::a_state_has_one_text_and_a_text_one_start;
 pub use refusal::refusal_text;
+pub use replay::replay_text;
 pub use report::{holds_text, violated_text};
 pub use state::state_text;
 pub use state_reader::read_state;

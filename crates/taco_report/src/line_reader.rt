@@ -1,6 +1,7 @@
 ghost use Rattle.std.specs.Prelude.{◌≡◌, ◌++◌, ◌≤◌, ℕ, List, [], nat_lt, option_map, slice_get, Some, flat_map, zip, IsTrue, IfOk, IfSome, IfNone, MatchOption};
 ghost use Rattle.std.specs.Cmp.Lexicographic.{pointwise};
 ghost use Rattle.heap_core.specs.declared.value.Value.{Value};
+ghost use Rattle.heap_core.specs.Posed.{InRange};
 ghost use Rattle.heap_core.specs.Start.{method_of};
 ghost use Rattle.taco_unit.specs.Well.{IsWell};
 ghost use Rattle.taco_report.specs.Texts.{argument_line as argument_line_of, cell_text, object_line as object_line_of, objects_line, this_line, this_value};
@@ -95,11 +96,14 @@ fn add_read_cells<'a>(
     }
 }
 
-/// The unit is well, so that a name has no space and no line feed, and no two classes have one.
-pub(crate) fn names_stand_apart(problem: &Problem)
-    ensures { IsWell problem.now.unit }
+/// What is so of every problem. Its unit is well: a name has no space and no line feed, and no two
+/// classes have one. Its scope is small: a text can tell of all objects and numbers within it.
+pub(crate) fn well_posed(problem: &Problem)
+    ensures unit { IsWell problem.now.unit }
+    ensures scope { InRange problem.now }
 {
     let _classes = &problem.unit.classes;
+    let _scope = problem.scope;
 }
 
 /// An object on its line, which begins with its number, and what stands behind the line.
@@ -113,7 +117,7 @@ pub(crate) fn object_line<'a>(
     ensures found { IfOk result (λ r. IfSome r (λ x. IsTrue (is_listed problem.now.unit count x.0) × (text.now ≡ object_line_of problem.now (number, x.0) ++ x.1.now))) }
     ensures none { IfOk result (λ r. IfNone r (NoLine (is_listed problem.now.unit count) (λ x. object_line_of problem.now (number, x)) text.now)) }
 {
-    names_stand_apart(problem);
+    well_posed(problem);
     let head = format!(in alloc; "@{number} ")?;
     let Some(name) = behind(text, head.as_bytes()) else {
         return Ok(None);

@@ -32,7 +32,12 @@ fn add_field(out: &mut Vec<u8>, problem: &Problem, field: u8) -> Result<(), NoMe
 }
 
 /// Adds a part of a contract.
-fn add_part(alloc: Global, out: &mut Vec<u8>, problem: &Problem, part: Part) -> Result<(), NoMemory>
+pub(crate) fn add_part(
+    alloc: Global,
+    out: &mut Vec<u8>,
+    problem: &Problem,
+    part: Part,
+) -> Result<(), NoMemory>
     ensures { OnOk result (out.new.items ≡ out.old.items ++ part_text problem.now part) }
 {
     match part {

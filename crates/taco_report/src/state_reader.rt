@@ -4,13 +4,13 @@ ghost use Rattle.std.specs.List.{list_all};
 ghost use Rattle.heap_core.specs.declared.start.Start.{Start};
 ghost use Rattle.heap_core.specs.declared.value.Object.{Object};
 ghost use Rattle.heap_core.specs.Start.{Fits};
-ghost use Rattle.taco_report.specs.Texts.{argument_line as argument_line_of, object_line as object_line_of, params_of};
+ghost use Rattle.taco_report.specs.Texts.{argument_line as argument_line_of, object_line as object_line_of, params_of, state_text};
 ghost use Rattle.taco_report.specs.declared.fault.StateFault.TheVariants as f;
 ghost use Rattle.taco_unit.specs.declared.unit.ParamDef.{ParamDef};
-ghost use Rattle.taco_report.specs.States.{BlamesState, IsStateText, NoLine, argument_lines as argument_lines_of, is_given, is_listed, object_lines as object_lines_of};
+ghost use Rattle.taco_report.specs.States.{BlamesState, IsReadAs, IsStateText, NoLine, argument_lines as argument_lines_of, is_given, is_listed, object_lines as object_lines_of};
 
 use crate::fault::StateFault;
-use crate::line_reader::{argument_line, count_line, object_line, receiver_line};
+use crate::line_reader::{argument_line, count_line, object_line, receiver_line, well_posed};
 use crate::state::params_in;
 use heap_core::{Object, Problem, Start, Value};
 use no_memory::NoMemory;
@@ -80,12 +80,15 @@ fn bad_state(text: &[u8], rest: &[u8]) -> StateFault
 /// Reads the text of a start, exactly as `state_text` writes it. `BadState` has the place, in bytes
 /// from 0, of the first line that is not right where it stands (a last piece without a line feed is
 /// such a line, and so is a line too many), or the text's length where a line is missing, or where
-/// all lines are right and the start does not fit the problem. Its cost is the text's length.
+/// all lines are right and the start does not fit the problem. The text of a start that fits is never
+/// refused. Its cost is the text's length.
 pub fn read_state(alloc: Global, problem: &Problem, text: &[u8]) -> Result<Start, StateFault>
     requires { length text.now ≤ 67108864 }
     ensures read { IfOk result (λ start. Fits start problem.now × IsStateText problem.now text.now start) }
     ensures fault { IfErr result (BlamesState problem.now text.now) }
+    ensures whole { (s : Start) → Fits s problem.now → text.now ≡ state_text problem.now s → IsReadAs result s }
 {
+    well_posed(problem);
     let Some((count, lines)) = count_line(alloc, text)? else {
         return Err(StateFault::BadState { at: 0 });
     };

@@ -24,7 +24,7 @@ returns-in_default-class_named-clause-none c =
     let start : c.as_bytes.result.now ≡ object_text c.args.number ++ codes " " = c.as_bytes.ensures.value ∙ c.in_ok-head.ensures.ok in
     let front : ObjectFront c.args.problem.now c.args.count x c.word_of.result.0.now c.word_of.result.1.now more =
     object_front c.args.problem.now c.args.count c.args.number x c.as_bytes.result.now c.in-Some.name.now c.word_of.result.0.now c.word_of.result.1.now more c.args.text.now
-    c.names_stand_apart.ensures is start c.in-Some.ensures c.word_of.ensures.parts c.word_of.ensures.word c.word_of.ensures.ends same in
+    c.well_posed.ensures.unit is start c.in-Some.ensures c.word_of.ensures.parts c.word_of.ensures.word c.word_of.ensures.ends same in
     let unit : class_number c.problem.inside.unit c.word_of.result.0.now ≡ class_number c.args.problem.now.unit c.word_of.result.0.now =
     ap (λ (q : Posed). class_number q.unit c.word_of.result.0.now) c.problem.view_is in
     let lost : None ≡ Some x.class = sym c.in_default-class_named.is ∙ c.class_named.ensures ∙ unit ∙ front.class in
@@ -37,7 +37,7 @@ returns-in_default-2-clause-none c =
     let start : c.as_bytes.result.now ≡ object_text c.args.number ++ codes " " = c.as_bytes.ensures.value ∙ c.in_ok-head.ensures.ok in
     let front : ObjectFront c.args.problem.now c.args.count x c.word_of.result.0.now c.word_of.result.1.now more =
     object_front c.args.problem.now c.args.count c.args.number x c.as_bytes.result.now c.in-Some.name.now c.word_of.result.0.now c.word_of.result.1.now more c.args.text.now
-    c.names_stand_apart.ensures is start c.in-Some.ensures c.word_of.ensures.parts c.word_of.ensures.word c.word_of.ensures.ends same in
+    c.well_posed.ensures.unit is start c.in-Some.ensures c.word_of.ensures.parts c.word_of.ensures.word c.word_of.ensures.ends same in
     let unit : class_number c.problem.inside.unit c.word_of.result.0.now ≡ class_number c.args.problem.now.unit c.word_of.result.0.now =
     ap (λ (q : Posed). class_number q.unit c.word_of.result.0.now) c.problem.view_is in
     let found_is : Some c.in-Some-class_named.class ≡ Some x.class = sym c.in-Some-class_named.is ∙ c.class_named.ensures ∙ unit ∙ front.class in
@@ -56,7 +56,7 @@ returns-clause-none c =
     let start : c.as_bytes.result.now ≡ object_text c.args.number ++ codes " " = c.as_bytes.ensures.value ∙ c.in_ok-head.ensures.ok in
     let front : ObjectFront c.args.problem.now c.args.count x c.word_of.result.0.now c.word_of.result.1.now more =
     object_front c.args.problem.now c.args.count c.args.number x c.as_bytes.result.now c.in-Some.name.now c.word_of.result.0.now c.word_of.result.1.now more c.args.text.now
-    c.names_stand_apart.ensures is start c.in-Some.ensures c.word_of.ensures.parts c.word_of.ensures.word c.word_of.ensures.ends same in
+    c.well_posed.ensures.unit is start c.in-Some.ensures c.word_of.ensures.parts c.word_of.ensures.word c.word_of.ensures.ends same in
     let unit : class_number c.problem.inside.unit c.word_of.result.0.now ≡ class_number c.args.problem.now.unit c.word_of.result.0.now =
     ap (λ (q : Posed). class_number q.unit c.word_of.result.0.now) c.problem.view_is in
     let found_is : Some c.in-Some-class_named.class ≡ Some x.class = sym c.in-Some-class_named.is ∙ c.class_named.ensures ∙ unit ∙ front.class in

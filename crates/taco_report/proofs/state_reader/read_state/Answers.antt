@@ -5,6 +5,7 @@ use Rattle.heap_core.specs.declared.start.Start.{Start}
 use Rattle.heap_core.specs.Start.{Fits}
 use Rattle.taco_report.specs.Texts.{params_of}
 use Rattle.taco_report.specs.States.{BlamesState, IsStateText, unfit}
+use Rattle.taco_report.proofs.NeverRefused.{read_fault, read_start}
 use Rattle.taco_report.proofs.StateLines.{Argued, Heaped, argued, bad_argument, bad_more, bad_object, bad_receiver, heaped, is_text}
 use Rattle.taco_report.proofs.state_reader.read_state.Goals as goal
 
@@ -92,3 +93,21 @@ returns-else-fits-clause-fault c =
     let misfits : Fits start c.args.problem.now → ⊥ = search rules in
     let at : length c.args.text.now - length c.in_ok-args.rest.now ≡ length c.args.text.now = omega (arith, over) in
     subst (BlamesState c.args.problem.now c.args.text.now) (sym c.bad_state-else-fits.ensures) (unfit start text misfits at)
+
+pub returns-then-len-from-clause-whole : goal.returns-then-len-from-clause-whole
+returns-then-len-from-clause-whole c = read_fault c.args.problem.now c.args.text.now c.bad_state.result c.well_posed.ensures.unit c.well_posed.ensures.scope (returns-then-len-from-clause-fault c)
+
+pub returns-in_default-2-clause-whole : goal.returns-in_default-2-clause-whole
+returns-in_default-2-clause-whole c = read_fault c.args.problem.now c.args.text.now c.bad_state-in_default-2.result c.well_posed.ensures.unit c.well_posed.ensures.scope (returns-in_default-2-clause-fault c)
+
+pub returns-then-len-params_in-clause-whole : goal.returns-then-len-params_in-clause-whole
+returns-then-len-params_in-clause-whole c = read_fault c.args.problem.now c.args.text.now c.bad_state-then-len-params_in.result c.well_posed.ensures.unit c.well_posed.ensures.scope (returns-then-len-params_in-clause-fault c)
+
+pub returns-then-not-is_empty-clause-whole : goal.returns-then-not-is_empty-clause-whole
+returns-then-not-is_empty-clause-whole c = read_fault c.args.problem.now c.args.text.now c.bad_state-then-not-is_empty.result c.well_posed.ensures.unit c.well_posed.ensures.scope (returns-then-not-is_empty-clause-fault c)
+
+pub returns-else-fits-clause-whole : goal.returns-else-fits-clause-whole
+returns-else-fits-clause-whole c = read_fault c.args.problem.now c.args.text.now c.bad_state-else-fits.result c.well_posed.ensures.unit c.well_posed.ensures.scope (returns-else-fits-clause-fault c)
+
+pub returns-then-fits-clause-whole : goal.returns-then-fits-clause-whole
+returns-then-fits-clause-whole c = read_start c.args.problem.now c.args.text.now (record { objects = c.in_ok-objects.objects; this = c.in-Some-2.this; args = c.in_ok-args.args }) c.well_posed.ensures.unit c.well_posed.ensures.scope (returns-then-fits-clause-read c)
