@@ -23,13 +23,49 @@ use Rattle.taco_run.specs.declared.outcome.TextEnd.{TextEnd}
 use Rattle.taco_run.specs.declared.outcome.TextEnd.TheVariants as end
 use Rattle.taco_run.specs.declared.problems.Unposed.{Unposed}
 use Rattle.taco_run.specs.declared.problems.Unposed.TheVariants as unposed
-use Rattle.taco_run.specs.Problems.{java_limit, IsRefused, LacksMethod, HoldsProblem, FetchesProblem}
+use Rattle.taco_unit.specs.Parts.{Parts}
+use Rattle.source_units.specs.Reading.{Reads}
+use Rattle.taco_run.specs.Problems.{java_limit, Names, IsPosed, IsRefused, LacksMethod, HoldsProblem, PosedIn, Poses, FetchesProblem}
 use Rattle.taco_run.specs.ReplayCommand.{state_limit, status_of, IsNoState, IsState}
 use Rattle.taco_run.specs.Replaying.{IsShown, ReplaysText, shown, refused}
 use Rattle.taco_run.specs.Headline.{FileRose, Leaves, Says}
 use Rattle.taco_run.specs.Steps.{EndsText, EndsUnposed, IsAnswered, IsOrNoMemory, ReadsFile}
 use Rattle.taco_run.proofs.Joining.{silent_answered, spoken, spoken_or_silent, unread}
 use Rattle.taco_run.proofs.Deciding.{if_told_more, leaves_check}
+
+-- what holds of these bytes holds of what is told, if it is
+lifted : {P : List ℕ → Type 0} (bytes : List ℕ) (told : Option (List ℕ)) → IfSome told (λ xs. bytes ≡ xs) → P bytes → IfSome told P
+lifted {P} bytes told same holds = if_told_more told (λ xs is. subst P is holds) same
+
+-- the text of a unit poses the problem of its method, or lacks it
+pub posed_text : (bytes : List ℕ) (job : Job) (u : Parts) (p : Posed) → Reads bytes u → length bytes ≤ java_limit → PosedIn u job (Some p) → IsPosed bytes job p
+posed_text bytes job u p reads short posed = record {
+  class = posed.0;
+  short = short;
+  reads = subst (Reads bytes) (sym posed.1) reads;
+  names = subst (λ v. Names v job posed.0 p.method) (sym posed.1) posed.2;
+  scope = posed.3;
+}
+
+pub lacking_text : (bytes : List ℕ) (job : Job) (u : Parts) → Reads bytes u → length bytes ≤ java_limit → PosedIn u job None → LacksMethod bytes job
+lacking_text bytes job u reads short lacks = record { unit = u; short = short; reads = reads; lacks = lacks }
+
+-- the file was read whole, or it was not
+pub fetched : (job : Job) (old new : Shelf) (bytes : List ℕ) (r : Result Posed Unposed) → IfSome (old.content job.file) (λ xs. bytes ≡ xs) → IsCalm old new → Poses bytes job r
+    → FetchesProblem job old new r
+fetched job old new bytes (Ok p) told calm posed = (record { is = lifted {λ xs. IsPosed xs job p} bytes (old.content job.file) told posed }, posed.scope, calm)
+fetched job old new bytes (Err (unposed.Refused r)) told calm refused = (lifted {λ xs. IsRefused xs r} bytes (old.content job.file) told refused, calm)
+fetched job old new bytes (Err unposed.NoMethod) told calm lacks = (lifted {λ xs. LacksMethod xs job} bytes (old.content job.file) told lacks, calm)
+fetched job old new bytes (Err (unposed.Unread end.TooLong)) told calm none = absurd none
+fetched job old new bytes (Err (unposed.Unread (end.BadText at))) told calm none = absurd none
+fetched job old new bytes (Err (unposed.Unread end.Fault)) told calm none = absurd none
+fetched job old new bytes (Err (unposed.Unread end.NoMemory)) told calm none = calm
+
+pub not_fetched : (job : Job) (old new : Shelf) (e : TextEnd) → ReadsFile job.file java_limit old new (Err e) → FetchesProblem job old new (Err (unposed.Unread e))
+not_fetched job old new end.TooLong reads = reads
+not_fetched job old new (end.BadText at) reads = reads
+not_fetched job old new end.Fault reads = reads
+not_fetched job old new end.NoMemory reads = reads
 
 -- what a request says of a file that poses no problem
 pub record SaysUnposed (asked : Option Request) (job : Job) (told : List ℕ → Option (List ℕ)) : Type 0 where
@@ -109,10 +145,6 @@ done_or_broken judged.Outside = inl refl
 done_or_broken judged.NotAsked = inl refl
 done_or_broken (judged.Breaks part) = inr refl
 done_or_broken judged.Meets = inl refl
-
--- what holds of these bytes holds of what is told, if it is
-lifted : {P : List ℕ → Type 0} (bytes : List ℕ) (told : Option (List ℕ)) → IfSome told (λ xs. bytes ≡ xs) → P bytes → IfSome told P
-lifted {P} bytes told same holds = if_told_more told (λ xs is. subst P is holds) same
 
 -- the text of a state was read
 replay_read : (job : Job) (state : List ℕ) (old new : Shelf) (p : Posed) (bytes : List ℕ) (o : Outcome) → HoldsProblem old.content job p → IfSome (old.content state) (λ xs. bytes ≡ xs)

@@ -57,11 +57,6 @@ Poses bytes job (Err unposed.NoMethod) = LacksMethod bytes job
 Poses bytes job (Err (unposed.Unread end.NoMemory)) = Unit {0}
 Poses bytes job (Err (unposed.Unread _)) = ⊥
 
--- a problem has the scope of the job
-abbrev pub HasScope : Job → Result Posed Unposed → Type 0
-HasScope job (Ok p) = p.scope ≡ job.scope
-HasScope job (Err why) = Unit {0}
-
 -- what the file and the job pose, and what its reading does to the counts
 abbrev pub FetchesProblem : Job → Shelf → Shelf → Result Posed Unposed → Type 0
 FetchesProblem job old new (Ok p) = HoldsProblem old.content job p × (p.scope ≡ job.scope) × IsCalm old new

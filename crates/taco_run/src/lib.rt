@@ -21,6 +21,8 @@ pub use taco_words::{Job, Request, RequestFault, Schedule, Text, request_of};
 #[cfg(test)]
 mod proof_tests;
 #[cfg(test)]
+mod replay_tests;
+#[cfg(test)]
 mod sat_tests;
 #[cfg(test)]
 mod tests;

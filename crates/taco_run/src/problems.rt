@@ -1,7 +1,7 @@
 ghost use Rattle.std.specs.Prelude.{◌≤◌, length};
 ghost use Rattle.taco_io.specs.Shelf.{Stays};
 ghost use Rattle.taco_words.specs.Limits.{IsScope};
-ghost use Rattle.taco_run.specs.Problems.{java_limit, FetchesProblem, HasScope, PosedIn, Poses};
+ghost use Rattle.taco_run.specs.Problems.{java_limit, FetchesProblem, PosedIn, Poses};
 ghost use Rattle.taco_run.specs.Steps.{EndsUnposed};
 
 use crate::outcome::{Outcome, TextEnd, ended, or_no_memory, refusal};
@@ -51,8 +51,7 @@ fn posed_in(unit: Unit, job: &Job) -> Option<Problem>
 fn problem_of(alloc: Global, bytes: &[u8], job: &Job) -> Result<Problem, Unposed>
     requires scope { IsScope job.now.scope }
     requires short { length bytes.now ≤ java_limit }
-    ensures poses { Poses bytes.now job.now result }
-    ensures scope { HasScope job.now result }
+    ensures { Poses bytes.now job.now result }
 {
     match unit_of(alloc, bytes) {
         Ok(unit) => match posed_in(unit, job) {
