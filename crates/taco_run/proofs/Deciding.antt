@@ -65,6 +65,6 @@ pub checked_ok : (budget : ℕ) (job : Job) (old new : Shelf) (p : Posed) (r : R
 checked_ok budget job old new p (Ok d) o posed scope calm stays checks is =
     subst (λ (x : Outcome). IsAnswered (Some (request.Check job budget)) old new None x.status x.output.items) (sym is)
     (spoken (Some (request.Check job budget)) old new d d.status (no_fault_by p d.status d.output.items checks.by) calm (leaves_check job budget old new stays) refl
-      (check_says budget old.content job p scope posed d.status d.output.items checks.by))
+    (check_says budget old.content job p scope posed d.status d.output.items checks.by))
 checked_ok budget job old new p (Err refused) o posed scope calm stays checks silent =
     silent_answered (Some (request.Check job budget)) old new o calm (leaves_check job budget old new stays) silent

@@ -34,8 +34,8 @@ use Rattle.taco_run.proofs.Joining.{silent_answered, spoken, spoken_or_silent, u
 use Rattle.taco_run.proofs.Deciding.{if_told_more, leaves_check}
 
 -- what holds of these bytes holds of what is told, if it is
-lifted : {P : List ℕ → Type 0} (bytes : List ℕ) (told : Option (List ℕ)) → IfSome told (λ xs. bytes ≡ xs) → P bytes → IfSome told P
-lifted {P} bytes told same holds = if_told_more told (λ xs is. subst P is holds) same
+lifted : (P : List ℕ → Type 0) (bytes : List ℕ) (told : Option (List ℕ)) → IfSome told (λ xs. bytes ≡ xs) → P bytes → IfSome told P
+lifted P bytes told same holds = if_told_more told (λ xs is. subst P is holds) same
 
 -- the text of a unit poses the problem of its method, or lacks it
 pub posed_text : (bytes : List ℕ) (job : Job) (u : Parts) (p : Posed) → Reads bytes u → length bytes ≤ java_limit → PosedIn u job (Some p) → IsPosed bytes job p
@@ -53,9 +53,9 @@ lacking_text bytes job u reads short lacks = record { unit = u; short = short; r
 -- the file was read whole, or it was not
 pub fetched : (job : Job) (old new : Shelf) (bytes : List ℕ) (r : Result Posed Unposed) → IfSome (old.content job.file) (λ xs. bytes ≡ xs) → IsCalm old new → Poses bytes job r
     → FetchesProblem job old new r
-fetched job old new bytes (Ok p) told calm posed = (record { is = lifted {λ xs. IsPosed xs job p} bytes (old.content job.file) told posed }, posed.scope, calm)
-fetched job old new bytes (Err (unposed.Refused r)) told calm refused = (lifted {λ xs. IsRefused xs r} bytes (old.content job.file) told refused, calm)
-fetched job old new bytes (Err unposed.NoMethod) told calm lacks = (lifted {λ xs. LacksMethod xs job} bytes (old.content job.file) told lacks, calm)
+fetched job old new bytes (Ok p) told calm posed = (record { is = lifted (λ xs. IsPosed xs job p) bytes (old.content job.file) told posed }, posed.scope, calm)
+fetched job old new bytes (Err (unposed.Refused r)) told calm refused = (lifted (λ xs. IsRefused xs r) bytes (old.content job.file) told refused, calm)
+fetched job old new bytes (Err unposed.NoMethod) told calm lacks = (lifted (λ xs. LacksMethod xs job) bytes (old.content job.file) told lacks, calm)
 fetched job old new bytes (Err (unposed.Unread end.TooLong)) told calm none = absurd none
 fetched job old new bytes (Err (unposed.Unread (end.BadText at))) told calm none = absurd none
 fetched job old new bytes (Err (unposed.Unread end.Fault)) told calm none = absurd none
@@ -150,16 +150,16 @@ done_or_broken judged.Meets = inl refl
 replay_read : (job : Job) (state : List ℕ) (old new : Shelf) (p : Posed) (bytes : List ℕ) (o : Outcome) → HoldsProblem old.content job p → IfSome (old.content state) (λ xs. bytes ≡ xs)
     → IsCalm old new → Leaves (Some (request.Replay job state)) old new → ReplaysText p bytes o → IsAnswered (Some (request.Replay job state)) old new None o.status o.output.items
 replay_read job state old new p bytes o posed told calm leaves (shown s is tells) =
-    let state_is : IfSome (old.content state) (λ xs. IsState p xs s) = lifted {λ xs. IsState p xs s} bytes (old.content state) told is in
+    let state_is : IfSome (old.content state) (λ xs. IsState p xs s) = lifted (λ xs. IsState p xs s) bytes (old.content state) told is in
     ⊎_elim
     (λ done. spoken (Some (request.Replay job state)) old new o status.Done (λ fault. cc) calm leaves (tells.status_is ∙ done)
-        (record { problem = p; start = s; posed = posed; state_is = state_is; ends_is = sym done; output_is = tells.told }))
+    (record { problem = p; start = s; posed = posed; state_is = state_is; ends_is = sym done; output_is = tells.told }))
     (λ broken. spoken (Some (request.Replay job state)) old new o status.Broken (λ fault. cc) calm leaves (tells.status_is ∙ broken)
-        (record { problem = p; start = s; posed = posed; state_is = state_is; ends_is = sym broken; output_is = tells.told }))
+    (record { problem = p; start = s; posed = posed; state_is = state_is; ends_is = sym broken; output_is = tells.told }))
     (done_or_broken (judged_of p s))
 replay_read job state old new p bytes o posed told calm leaves (refused at none tells) =
     spoken (Some (request.Replay job state)) old new o (status.BadState at) (λ fault. cc) calm leaves tells.status_is
-    (tells.told, record { problem = p; posed = posed; no_state = lifted {λ xs. IsNoState p xs at} bytes (old.content state) told none })
+    (tells.told, record { problem = p; posed = posed; no_state = lifted (λ xs. IsNoState p xs at) bytes (old.content state) told none })
 
 pub replay_ok : (job : Job) (state : List ℕ) (old mid new : Shelf) (p : Posed) (bytes : List ℕ) (r : Result Outcome NoMemory) (o : Outcome) → HoldsProblem old.content job p → IsCalm old mid
     → Stays 0 old mid → Stays 1 mid new → IfSome (mid.content state) (λ xs. bytes ≡ xs) → IsCalm mid new → IfOk r (ReplaysText p bytes) → IsOrNoMemory r o

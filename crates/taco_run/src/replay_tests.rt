@@ -15,8 +15,7 @@ const GROW: &str =
     "class N { /*@ nullable @*/ N next;\n  //@ requires next == null;\n  //@ ensures next == null;\n  void grow() { next = new N(); } }\n";
 
 /// A method that reads a field of its parameter.
-const GET: &str =
-    "class C { int v;\n  static int get(/*@ nullable @*/ C x) { return x.v; } }\n";
+const GET: &str = "class C { int v;\n  static int get(/*@ nullable @*/ C x) { return x.v; } }\n";
 
 /// A method that counts up to 3.
 const UP: &str =
@@ -75,7 +74,14 @@ fn starts_are_judged(rt: HostRuntime) -> Result<(), Fail> {
             Status::Broken,
             "judged breaks ensures 1\nresult none\nobjects 1\n@0 P v=1\n",
         ),
-        (GROW, one, grow, ["--objects", "1"], Status::Done, "judged outside\n"),
+        (
+            GROW,
+            one,
+            grow,
+            ["--objects", "1"],
+            Status::Done,
+            "judged outside\n",
+        ),
         (
             GROW,
             one,
@@ -100,7 +106,14 @@ fn starts_are_judged(rt: HostRuntime) -> Result<(), Fail> {
             Status::BadState { at: 44 },
             "badstate 44\n",
         ),
-        (UP, go, up, ["--loops", "2"], Status::Done, "judged outside\n"),
+        (
+            UP,
+            go,
+            up,
+            ["--loops", "2"],
+            Status::Done,
+            "judged outside\n",
+        ),
         (
             UP,
             go,
@@ -181,15 +194,36 @@ fn damaged_states_are_refused_with_their_place(rt: HostRuntime) -> Result<(), Fa
         ("", "badstate 0\n"),
         ("objects 13\n", "badstate 0\n"),
         ("objects 01\n", "badstate 0\n"),
-        ("objects 1\n@0 Q v=0\nthis @0\na=@0\nb=@0\n", "badstate 10\n"),
-        ("objects 1\n@0 P v=00\nthis @0\na=@0\nb=@0\n", "badstate 10\n"),
-        ("objects 1\n@1 P v=0\nthis @0\na=@0\nb=@0\n", "badstate 10\n"),
-        ("objects 1\n@0 P v=0\nthis none\na=@0\nb=@0\n", "badstate 19\n"),
-        ("objects 1\n@0 P v=0\nthis @0\na=@1\nb=@0\n", "badstate 27\n"),
+        (
+            "objects 1\n@0 Q v=0\nthis @0\na=@0\nb=@0\n",
+            "badstate 10\n",
+        ),
+        (
+            "objects 1\n@0 P v=00\nthis @0\na=@0\nb=@0\n",
+            "badstate 10\n",
+        ),
+        (
+            "objects 1\n@1 P v=0\nthis @0\na=@0\nb=@0\n",
+            "badstate 10\n",
+        ),
+        (
+            "objects 1\n@0 P v=0\nthis none\na=@0\nb=@0\n",
+            "badstate 19\n",
+        ),
+        (
+            "objects 1\n@0 P v=0\nthis @0\na=@1\nb=@0\n",
+            "badstate 27\n",
+        ),
         ("objects 1\n@0 P v=0\nthis @0\na=@0\nb=@0", "badstate 32\n"),
         ("objects 1\n@0 P v=0\nthis @0\na=@0\n", "badstate 32\n"),
-        ("objects 1\n@0 P v=0\nthis @0\na=@0\nb=@0\nc=@0\n", "badstate 37\n"),
-        ("objects 1\n@0 P v=9\nthis @0\na=@0\nb=@0\n", "badstate 37\n"),
+        (
+            "objects 1\n@0 P v=0\nthis @0\na=@0\nb=@0\nc=@0\n",
+            "badstate 37\n",
+        ),
+        (
+            "objects 1\n@0 P v=9\nthis @0\na=@0\nb=@0\n",
+            "badstate 37\n",
+        ),
         (
             "objects 2\n@0 P v=0\n@1 P v=0\nthis @0\na=@0\nb=@0\n",
             "badstate 46\n",
@@ -237,7 +271,14 @@ fn states_have_a_limit(rt: HostRuntime) -> Result<(), Fail> {
         3
     );
     assert_eq!(rt;
-        status_of(alloc, UP.as_bytes(), &state, ("W", "down"), &usual, &mut sink)?,
+        status_of(
+            alloc,
+            UP.as_bytes(),
+            &state,
+            ("W", "down"),
+            &usual,
+            &mut sink
+        )?,
         Status::NoMethod
     );
     assert_eq!(rt;
@@ -280,10 +321,18 @@ fn methods_that_are_not_plain_are_not_checked_so_far(rt: HostRuntime) -> Result<
 #[test]
 fn every_fault_of_a_replay_ends_the_call(rt: HostRuntime) -> Result<(), Fail> {
     let alloc = rt.alloc();
-    let words = ["replay", "M.java", "M.state", "--class", "W", "--method", "up"];
+    let words = [
+        "replay", "M.java", "M.state", "--class", "W", "--method", "up",
+    ];
     // Each file is opened, gives all of its bytes with a pull, and then its end.
     for call in 0..6 {
-        let mut files = shelf(alloc, UP.as_bytes(), b"objects 0\nthis none\ngo=true\n", 9999, &[call])?;
+        let mut files = shelf(
+            alloc,
+            UP.as_bytes(),
+            b"objects 0\nthis none\ngo=true\n",
+            9999,
+            &[call],
+        )?;
         let mut sink = MemSink::new(alloc, 100, 9, Vec::new(alloc))?;
         assert_eq!(rt;
             run(alloc, &words, &mut files, &mut sink).status,

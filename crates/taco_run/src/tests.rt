@@ -191,11 +191,7 @@ fn the_asked_scope_is_printed(rt: HostRuntime) -> Result<(), Fail> {
 #[test]
 fn commands_to_come_are_refused(rt: HostRuntime) -> Result<(), Fail> {
     let alloc = rt.alloc();
-    let lines = [
-        "bounds B.java --class B --method id",
-        "replay B.java S --class B --method id",
-        "stress --number 1",
-    ];
+    let lines = ["bounds B.java --class B --method id", "stress --number 1"];
     for line in lines {
         let words = line.split(' ').collect::<Vec<&str>>(alloc)?;
         let mut sink = MemSink::new(alloc, 100, 9, Vec::new(alloc))?;
