@@ -1,5 +1,5 @@
 -- Requests that pose no problem, and the replay of one that does.
-use Rattle.std.proofs.Common.{◌≡◌, ◌≢◌, ℕ, ◌<◌, List, [], length, Option, Some, None, IfSome, refl, sym, ◌∙◌, subst, arith}
+use Rattle.std.proofs.Common.{◌≡◌, ◌≢◌, ℕ, ◌<◌, ◌≤◌, List, [], length, Option, Some, None, IfSome, refl, sym, ◌∙◌, subst, arith}
 use Rattle.std.specs.Prelude.{◌⊎◌, Result, Ok, Err, IfOk, codes}
 use Rattle.std.proofs.Common.{inl, inr, ⊎_elim}
 use Rattle.heap_core.specs.declared.judged.Judged.{Judged}
@@ -13,8 +13,12 @@ use Rattle.taco_io.specs.Counts.{Rose}
 use Rattle.taco_io.specs.Shelf.{Shelf, Stays, IsCalm, NameRose}
 use Rattle.taco_report.specs.declared.status.Status.{Status}
 use Rattle.taco_report.specs.declared.status.Status.TheVariants as status
+use Rattle.heap_core.specs.Start.{Fits}
+use Rattle.taco_report.specs.declared.fault.StateFault.{StateFault}
+use Rattle.taco_report.specs.declared.fault.StateFault.TheVariants as fault
 use Rattle.taco_report.specs.RefusalLines.{refusal_line}
-use Rattle.taco_report.specs.Texts.{line}
+use Rattle.taco_report.specs.States.{BlamesState, IsReadAs}
+use Rattle.taco_report.specs.Texts.{line, state_text}
 use Rattle.taco_words.specs.declared.request.Job.{Job}
 use Rattle.taco_words.specs.declared.request.Request.{Request}
 use Rattle.taco_words.specs.declared.request.Request.TheVariants as request
@@ -54,7 +58,7 @@ lacking_text bytes job u reads short lacks = record { unit = u; short = short; r
 pub fetched : (job : Job) (old new : Shelf) (bytes : List ℕ) (r : Result Posed Unposed) → IfSome (old.content job.file) (λ xs. bytes ≡ xs) → IsCalm old new → Poses bytes job r
     → FetchesProblem job old new r
 fetched job old new bytes (Ok p) told calm posed = (record { is = lifted (λ xs. IsPosed xs job p) bytes (old.content job.file) told posed }, posed.scope, calm)
-fetched job old new bytes (Err (unposed.Refused r)) told calm refused = (lifted (λ xs. IsRefused xs r) bytes (old.content job.file) told refused, calm)
+fetched job old new bytes (Err (unposed.Refused r)) told calm is = (lifted (λ xs. IsRefused xs r) bytes (old.content job.file) told is, calm)
 fetched job old new bytes (Err unposed.NoMethod) told calm lacks = (lifted (λ xs. LacksMethod xs job) bytes (old.content job.file) told lacks, calm)
 fetched job old new bytes (Err (unposed.Unread end.TooLong)) told calm none = absurd none
 fetched job old new bytes (Err (unposed.Unread (end.BadText at))) told calm none = absurd none
@@ -71,13 +75,13 @@ not_fetched job old new end.NoMemory reads = reads
 pub record SaysUnposed (asked : Option Request) (job : Job) (told : List ℕ → Option (List ℕ)) : Type 0 where
   pub fault : (output : List ℕ) → output ≡ [] → Says told asked status.ReadFault output
   pub long : IfSome (told job.file) (λ bytes. java_limit < length bytes) → Says told asked (status.TooLong 0) (line (codes "toolong"))
-  pub refused : (r : Refusal) → IfSome (told job.file) (λ bytes. IsRefused bytes r) → Says told asked (status.Source r) (refusal_line (status.Source r))
+  pub faulty : (r : Refusal) → IfSome (told job.file) (λ bytes. IsRefused bytes r) → Says told asked (status.Source r) (refusal_line (status.Source r))
   pub lacks : IfSome (told job.file) (λ bytes. LacksMethod bytes job) → Says told asked status.NoMethod (refusal_line status.NoMethod)
 
 unposed_answered : (asked : Option Request) (job : Job) (old new : Shelf) (why : Unposed) (o : Outcome) → SaysUnposed asked job old.content → (NameRose job.file old new → FileRose asked old new)
     → Leaves asked old new → FetchesProblem job old new (Err why) → EndsUnposed why o → IsAnswered asked old new None o.status o.output.items
 unposed_answered asked job old new (unposed.Refused r) o says rose leaves fetches ends =
-    spoken_or_silent asked old new o (status.Source r) (refusal_line (status.Source r)) (λ is. cc) fetches.1 leaves ends (says.refused r fetches.0)
+    spoken_or_silent asked old new o (status.Source r) (refusal_line (status.Source r)) (λ is. cc) fetches.1 leaves ends (says.faulty r fetches.0)
 unposed_answered asked job old new unposed.NoMethod o says rose leaves fetches ends =
     spoken_or_silent asked old new o status.NoMethod (refusal_line status.NoMethod) (λ is. cc) fetches.1 leaves ends (says.lacks fetches.0)
 unposed_answered asked job old new (unposed.Unread end.TooLong) o says rose leaves fetches ends =
@@ -92,7 +96,7 @@ pub check_unposed : (budget : ℕ) (job : Job) (old new : Shelf) (why : Unposed)
     → IsAnswered (Some (request.Check job budget)) old new None o.status o.output.items
 check_unposed budget job old new why o stays =
     unposed_answered (Some (request.Check job budget)) job old new why o
-    (record { fault = λ output is. is; long = λ told. (refl, refl, told); refused = λ r told. (refl, told); lacks = λ told. (refl, told) }) (λ rose. rose)
+    (record { fault = λ output is. is; long = λ told. (refl, refl, told); faulty = λ r told. (refl, told); lacks = λ told. (refl, told) }) (λ rose. rose)
     (leaves_check job budget old new stays)
 
 -- a replay uses both slots
@@ -117,7 +121,7 @@ pub replay_unposed : (job : Job) (state : List ℕ) (old new : Shelf) (why : Unp
     → IsAnswered (Some (request.Replay job state)) old new None o.status o.output.items
 replay_unposed job state old new why o stays =
     unposed_answered (Some (request.Replay job state)) job old new why o
-    (record { fault = λ output is. is; long = λ told. (refl, inl (refl, told)); refused = λ r told. (refl, told); lacks = λ told. (refl, told) }) inl
+    (record { fault = λ output is. is; long = λ told. (refl, inl (refl, told)); faulty = λ r told. (refl, told); lacks = λ told. (refl, told) }) inl
     (leaves_first job state old new stays)
 
 -- the state's file as the first reading left it is as it was
@@ -138,6 +142,16 @@ state_unread job state old mid new p end.Fault o posed calm first second reads e
     unread (Some (request.Replay job state)) old new o (inr (p, posed, subst (λ n. Rose n (new.faults state)) (calm state) reads)) (leaves_both job state old mid new first second) ends ends.silent
 state_unread job state old mid new p end.NoMemory o posed calm first second reads ends =
     silent_answered (Some (request.Replay job state)) old new o (calm_both old mid new calm reads) (leaves_both job state old mid new first second) ends
+
+-- a text that is refused is that of no start
+pub not_state : (p : Posed) (bytes : List ℕ) (f : StateFault) (at : ℕ) → f ≡ fault.BadState at → length bytes ≤ state_limit → BlamesState p bytes f
+    → ((s : Start) → Fits s p → bytes ≡ state_text p s → IsReadAs (Err f) s) → IsNoState p bytes at
+not_state p bytes f at is short blames whole =
+    record {
+      short = short;
+      first = subst (BlamesState p bytes) is blames;
+      none = λ s fits same. subst (λ (e : StateFault). IsReadAs (Err e) s) is (whole s fits same);
+    }
 
 -- the status of a judgement
 done_or_broken : (j : Judged) → (status_of j ≡ status.Done) ⊎ (status_of j ≡ status.Broken)

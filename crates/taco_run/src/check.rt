@@ -6,7 +6,7 @@ ghost use Rattle.taco_run.specs.Decided.{Checks, Tells};
 ghost use Rattle.taco_run.specs.Steps.{IsAnswered};
 
 use crate::outcome::{Outcome, or_no_memory, refusal};
-use crate::problems::{read_problem, unposed};
+use crate::problems::{read_problem, without_problem};
 use boolean_trial::{is_plain, tried};
 use heap_core::Problem;
 use no_memory::NoMemory;
@@ -51,6 +51,6 @@ pub(crate) fn check_method<F: Files>(alloc: Global, files: &mut F, job: &Job) ->
 {
     match read_problem(alloc, files, job) {
         Ok(problem) => or_no_memory(alloc, decide(alloc, &problem)),
-        Err(why) => unposed(alloc, why),
+        Err(why) => without_problem(alloc, why),
     }
 }

@@ -80,7 +80,7 @@ pub(crate) fn read_problem<F: Files>(
 }
 
 /// How a request ends that poses no problem.
-pub(crate) fn unposed(alloc: Global, why: Unposed) -> Outcome
+pub(crate) fn without_problem(alloc: Global, why: Unposed) -> Outcome
     ensures { EndsUnposed why result }
 {
     match why {

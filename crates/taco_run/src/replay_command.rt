@@ -7,7 +7,7 @@ ghost use Rattle.taco_run.specs.Replaying.{IsShown, ReplaysText};
 ghost use Rattle.taco_run.specs.Steps.{IsAnswered};
 
 use crate::outcome::{Outcome, ended, or_no_memory, refusal};
-use crate::problems::{read_problem, unposed};
+use crate::problems::{read_problem, without_problem};
 use crate::reading::read_file;
 use heap_core::{Judged, Problem, Start};
 use heap_replay::replay;
@@ -68,7 +68,7 @@ pub(crate) fn replay_start<F: Files>(
 {
     let problem = match read_problem(alloc, files, job) {
         Ok(problem) => problem,
-        Err(why) => return unposed(alloc, why),
+        Err(why) => return without_problem(alloc, why),
     };
     match read_file(alloc, files, 1, state.as_str(), STATE_LIMIT) {
         Ok(text) => or_no_memory(alloc, replay_of(alloc, &problem, &text)),

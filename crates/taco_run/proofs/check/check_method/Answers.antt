@@ -10,5 +10,5 @@ returns-in-Ok g c budget =
 
 pub returns-in-Err : goal.returns-in-Err
 returns-in-Err g c budget =
-    check_unposed budget c.args.job.now (g.F.Files.shelf c.args.files.now) (g.F.Files.shelf c.read_problem.new.files) c.in-Err.why c.unposed.result c.in-Err.ensures.stays c.in-Err.ensures.fetches
-    c.unposed.ensures
+    check_unposed budget c.args.job.now (g.F.Files.shelf c.args.files.now) (g.F.Files.shelf c.read_problem.new.files) c.in-Err.why c.without_problem.result c.in-Err.ensures.stays c.in-Err.ensures.fetches
+    c.without_problem.ensures
