@@ -1,4 +1,5 @@
 //! The program: `taco check FILE --class C --method M` prints whether the method keeps its contract,
+//! `taco replay FILE STATE --class C --method M` how the run from one start is judged,
 //! `taco proof CNF LOG` whether a log follows from a formula, and `taco sat CNF` values that satisfy a
 //! formula or a log that refutes it. It ends with the status of the answer.
 #![tactic(auto)]

@@ -41,19 +41,6 @@ use Rattle.taco_run.proofs.Deciding.{if_told_more, leaves_check}
 lifted : (P : List ℕ → Type 0) (bytes : List ℕ) (told : Option (List ℕ)) → IfSome told (λ xs. bytes ≡ xs) → P bytes → IfSome told P
 lifted P bytes told same holds = if_told_more told (λ xs is. subst P is holds) same
 
--- the text of a unit poses the problem of its method, or lacks it
-pub posed_text : (bytes : List ℕ) (job : Job) (u : Parts) (p : Posed) → Reads bytes u → length bytes ≤ java_limit → PosedIn u job (Some p) → IsPosed bytes job p
-posed_text bytes job u p reads short posed = record {
-  class = posed.0;
-  short = short;
-  reads = subst (Reads bytes) (sym posed.1) reads;
-  names = subst (λ v. Names v job posed.0 p.method) (sym posed.1) posed.2;
-  scope = posed.3;
-}
-
-pub lacking_text : (bytes : List ℕ) (job : Job) (u : Parts) → Reads bytes u → length bytes ≤ java_limit → PosedIn u job None → LacksMethod bytes job
-lacking_text bytes job u reads short lacks = record { unit = u; short = short; reads = reads; lacks = lacks }
-
 -- the file was read whole, or it was not
 pub fetched : (job : Job) (old new : Shelf) (bytes : List ℕ) (r : Result Posed Unposed) → IfSome (old.content job.file) (λ xs. bytes ≡ xs) → IsCalm old new → Poses bytes job r
     → FetchesProblem job old new r
@@ -65,49 +52,7 @@ fetched job old new bytes (Err (unposed.Unread (end.BadText at))) told calm none
 fetched job old new bytes (Err (unposed.Unread end.Fault)) told calm none = absurd none
 fetched job old new bytes (Err (unposed.Unread end.NoMemory)) told calm none = calm
 
-pub not_fetched : (job : Job) (old new : Shelf) (e : TextEnd) → ReadsFile job.file java_limit old new (Err e) → FetchesProblem job old new (Err (unposed.Unread e))
-not_fetched job old new end.TooLong reads = reads
-not_fetched job old new (end.BadText at) reads = reads
-not_fetched job old new end.Fault reads = reads
-not_fetched job old new end.NoMemory reads = reads
-
--- what a request says of a file that poses no problem
-pub record SaysUnposed (asked : Option Request) (job : Job) (told : List ℕ → Option (List ℕ)) : Type 0 where
-  pub fault : (output : List ℕ) → output ≡ [] → Says told asked status.ReadFault output
-  pub long : IfSome (told job.file) (λ bytes. java_limit < length bytes) → Says told asked (status.TooLong 0) (line (codes "toolong"))
-  pub faulty : (r : Refusal) → IfSome (told job.file) (λ bytes. IsRefused bytes r) → Says told asked (status.Source r) (refusal_line (status.Source r))
-  pub lacks : IfSome (told job.file) (λ bytes. LacksMethod bytes job) → Says told asked status.NoMethod (refusal_line status.NoMethod)
-
-unposed_answered : (asked : Option Request) (job : Job) (old new : Shelf) (why : Unposed) (o : Outcome) → SaysUnposed asked job old.content → (NameRose job.file old new → FileRose asked old new)
-    → Leaves asked old new → FetchesProblem job old new (Err why) → EndsUnposed why o → IsAnswered asked old new None o.status o.output.items
-unposed_answered asked job old new (unposed.Refused r) o says rose leaves fetches ends =
-    spoken_or_silent asked old new o (status.Source r) (refusal_line (status.Source r)) (λ is. cc) fetches.1 leaves ends (says.faulty r fetches.0)
-unposed_answered asked job old new unposed.NoMethod o says rose leaves fetches ends =
-    spoken_or_silent asked old new o status.NoMethod (refusal_line status.NoMethod) (λ is. cc) fetches.1 leaves ends (says.lacks fetches.0)
-unposed_answered asked job old new (unposed.Unread end.TooLong) o says rose leaves fetches ends =
-    spoken_or_silent asked old new o (status.TooLong 0) (line (codes "toolong")) (λ is. cc) fetches.1 leaves ends (says.long fetches.0)
-unposed_answered asked job old new (unposed.Unread (end.BadText at)) o says rose leaves fetches ends = absurd fetches
-unposed_answered asked job old new (unposed.Unread end.Fault) o says rose leaves fetches ends =
-    unread asked old new o (rose fetches) leaves ends (says.fault o.output.items ends.silent)
-unposed_answered asked job old new (unposed.Unread end.NoMemory) o says rose leaves fetches ends = silent_answered asked old new o fetches leaves ends
-
--- a check that poses no problem
-pub check_unposed : (budget : ℕ) (job : Job) (old new : Shelf) (why : Unposed) (o : Outcome) → Stays 0 old new → FetchesProblem job old new (Err why) → EndsUnposed why o
-    → IsAnswered (Some (request.Check job budget)) old new None o.status o.output.items
-check_unposed budget job old new why o stays =
-    unposed_answered (Some (request.Check job budget)) job old new why o
-    (record { fault = λ output is. is; long = λ told. (refl, refl, told); faulty = λ r told. (refl, told); lacks = λ told. (refl, told) }) (λ rose. rose)
-    (leaves_check job budget old new stays)
-
 -- a replay uses both slots
-leaves_first : (job : Job) (state : List ℕ) (old new : Shelf) → Stays 0 old new → Leaves (Some (request.Replay job state)) old new
-leaves_first job state old new stays = record {
-  content = stays.content;
-  faults = stays.faults;
-  name = λ slot other. stays.name slot (λ is. other (inl is));
-  rest = λ slot other. stays.rest slot (λ is. other (inl is));
-}
-
 leaves_both : (job : Job) (state : List ℕ) (old mid new : Shelf) → Stays 0 old mid → Stays 1 mid new → Leaves (Some (request.Replay job state)) old new
 leaves_both job state old mid new first second = record {
   content = λ name. second.content name ∙ first.content name;
@@ -116,32 +61,12 @@ leaves_both job state old mid new first second = record {
   rest = λ slot other. second.rest slot (λ is. other (inr is)) ∙ first.rest slot (λ is. other (inl is));
 }
 
--- a replay that poses no problem
-pub replay_unposed : (job : Job) (state : List ℕ) (old new : Shelf) (why : Unposed) (o : Outcome) → Stays 0 old new → FetchesProblem job old new (Err why) → EndsUnposed why o
-    → IsAnswered (Some (request.Replay job state)) old new None o.status o.output.items
-replay_unposed job state old new why o stays =
-    unposed_answered (Some (request.Replay job state)) job old new why o
-    (record { fault = λ output is. is; long = λ told. (refl, inl (refl, told)); faulty = λ r told. (refl, told); lacks = λ told. (refl, told) }) inl
-    (leaves_first job state old new stays)
-
 -- the state's file as the first reading left it is as it was
 told_before : (job : Job) (state : List ℕ) (old mid : Shelf) (P : List ℕ → Type 0) → Stays 0 old mid → IfSome (mid.content state) P → IfSome (old.content state) P
 told_before job state old mid P stays = subst (λ t. IfSome t P) (stays.content state)
 
 calm_both : (old mid new : Shelf) → IsCalm old mid → IsCalm mid new → IsCalm old new
 calm_both old mid new first second name = second name ∙ first name
-
--- the state's file gave no text
-pub state_unread : (job : Job) (state : List ℕ) (old mid new : Shelf) (p : Posed) (e : TextEnd) (o : Outcome) → HoldsProblem old.content job p → IsCalm old mid → Stays 0 old mid → Stays 1 mid new
-    → ReadsFile state state_limit mid new (Err e) → EndsText 1 e o → IsAnswered (Some (request.Replay job state)) old new None o.status o.output.items
-state_unread job state old mid new p end.TooLong o posed calm first second reads ends =
-    spoken_or_silent (Some (request.Replay job state)) old new o (status.TooLong 1) (line (codes "toolong")) (λ is. cc) (calm_both old mid new calm reads.1) (leaves_both job state old mid new first second) ends
-    (refl, inr (p, refl, posed, told_before job state old mid (λ bytes. state_limit < length bytes) first reads.0))
-state_unread job state old mid new p (end.BadText at) o posed calm first second reads ends = absurd reads
-state_unread job state old mid new p end.Fault o posed calm first second reads ends =
-    unread (Some (request.Replay job state)) old new o (inr (p, posed, subst (λ n. Rose n (new.faults state)) (calm state) reads)) (leaves_both job state old mid new first second) ends ends.silent
-state_unread job state old mid new p end.NoMemory o posed calm first second reads ends =
-    silent_answered (Some (request.Replay job state)) old new o (calm_both old mid new calm reads) (leaves_both job state old mid new first second) ends
 
 -- a text that is refused is that of no start
 pub not_state : (p : Posed) (bytes : List ℕ) (f : StateFault) (at : ℕ) → f ≡ fault.BadState at → length bytes ≤ state_limit → BlamesState p bytes f

@@ -27,7 +27,7 @@ use Rattle.taco_report.specs.Texts.{line}
 use Rattle.taco_report.specs.Reports.{no_tuples, holds_report, violated_report}
 use Rattle.taco_report.specs.RefusalLines.{refusal_line}
 
--- and its method is one of those that are checked so far
+-- the bytes pose this problem, and its method is one of those that are checked so far
 pub record IsTried (bytes : List ℕ) (job : Job) (p : Posed) : Type 0 where
   pub posed : IsPosed bytes job p
   pub plain : IsPlain p.unit p.method
