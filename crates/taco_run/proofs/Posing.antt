@@ -86,25 +86,25 @@ done_or_broken (judged.Breaks part) = inr refl
 done_or_broken judged.Meets = inl refl
 
 -- the text of a state was read
-replay_read : (job : Job) (state : List ℕ) (old new : Shelf) (p : Posed) (bytes : List ℕ) (o : Outcome) → HoldsProblem old.content job p → IfSome (old.content state) (λ xs. bytes ≡ xs)
+replay_read : (job : Job) (state : List ℕ) (old new : Shelf) (p : Posed) (bytes : List ℕ) (o : Outcome) → HoldsProblem old.content job p → p.scope ≡ job.scope → IfSome (old.content state) (λ xs. bytes ≡ xs)
     → IsCalm old new → Leaves (Some (request.Replay job state)) old new → ReplaysText p bytes o → IsAnswered (Some (request.Replay job state)) old new None o.status o.output.items
-replay_read job state old new p bytes o posed told calm leaves (shown s is tells) =
+replay_read job state old new p bytes o posed scope told calm leaves (shown s is tells) =
     let state_is : IfSome (old.content state) (λ xs. IsState p xs s) = lifted (λ xs. IsState p xs s) bytes (old.content state) told is in
     ⊎_elim
     (λ done. spoken (Some (request.Replay job state)) old new o status.Done (λ fault. cc) calm leaves (tells.status_is ∙ done)
-    (record { problem = p; start = s; posed = posed; state_is = state_is; ends_is = sym done; output_is = tells.told }))
+    (record { problem = p; start = s; scope = scope; fits = is.fits; posed = posed; state_is = state_is; ends_is = sym done; output_is = tells.told }))
     (λ broken. spoken (Some (request.Replay job state)) old new o status.Broken (λ fault. cc) calm leaves (tells.status_is ∙ broken)
-    (record { problem = p; start = s; posed = posed; state_is = state_is; ends_is = sym broken; output_is = tells.told }))
+    (record { problem = p; start = s; scope = scope; fits = is.fits; posed = posed; state_is = state_is; ends_is = sym broken; output_is = tells.told }))
     (done_or_broken (judged_of p s))
-replay_read job state old new p bytes o posed told calm leaves (refused at none tells) =
+replay_read job state old new p bytes o posed scope told calm leaves (refused at none tells) =
     spoken (Some (request.Replay job state)) old new o (status.BadState at) (λ fault. cc) calm leaves tells.status_is
     (tells.told, record { problem = p; posed = posed; no_state = lifted (λ xs. IsNoState p xs at) bytes (old.content state) told none })
 
-pub replay_ok : (job : Job) (state : List ℕ) (old mid new : Shelf) (p : Posed) (bytes : List ℕ) (r : Result Outcome NoMemory) (o : Outcome) → HoldsProblem old.content job p → IsCalm old mid
+pub replay_ok : (job : Job) (state : List ℕ) (old mid new : Shelf) (p : Posed) (bytes : List ℕ) (r : Result Outcome NoMemory) (o : Outcome) → HoldsProblem old.content job p → p.scope ≡ job.scope → IsCalm old mid
     → Stays 0 old mid → Stays 1 mid new → IfSome (mid.content state) (λ xs. bytes ≡ xs) → IsCalm mid new → IfOk r (ReplaysText p bytes) → IsOrNoMemory r o
     → IsAnswered (Some (request.Replay job state)) old new None o.status o.output.items
-replay_ok job state old mid new p bytes (Ok d) o posed calm first second told calm_too replays is =
+replay_ok job state old mid new p bytes (Ok d) o posed scope calm first second told calm_too replays is =
     subst (λ (x : Outcome). IsAnswered (Some (request.Replay job state)) old new None x.status x.output.items) (sym is)
-    (replay_read job state old new p bytes d posed (told_before job state old mid (λ xs. bytes ≡ xs) first told) (calm_both old mid new calm calm_too) (leaves_both job state old mid new first second) replays)
-replay_ok job state old mid new p bytes (Err none) o posed calm first second told calm_too replays silent =
+    (replay_read job state old new p bytes d posed scope (told_before job state old mid (λ xs. bytes ≡ xs) first told) (calm_both old mid new calm calm_too) (leaves_both job state old mid new first second) replays)
+replay_ok job state old mid new p bytes (Err none) o posed scope calm first second told calm_too replays silent =
     silent_answered (Some (request.Replay job state)) old new o (calm_both old mid new calm calm_too) (leaves_both job state old mid new first second) silent

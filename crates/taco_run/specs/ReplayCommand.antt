@@ -41,6 +41,8 @@ status_of _ = status.Done
 pub record IsReplayed (told : List ℕ → Option (List ℕ)) (job : Job) (state : List ℕ) (ends : Status) (output : List ℕ) : Type 0 where
   pub problem : Posed
   pub start : Start
+  pub scope : problem.scope ≡ job.scope
+  pub fits : Fits start problem
   pub posed : HoldsProblem told job problem
   pub state_is : IfSome (told state) (λ bytes. IsState problem bytes start)
   pub ends_is : ends ≡ status_of (judged problem start)
