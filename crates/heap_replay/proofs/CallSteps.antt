@@ -1,38 +1,31 @@
 -- One step of a call.
-use Rattle.std.proofs.Common.{◌≡◌, ℕ, zero, suc, ◌+◌, ◌*◌, ◌-◌, ◌<◌, ◌≤◌, Bool, true, false, List, [], ◌∷◌, ◌++◌, Option, Some, None, Bor, length, get_or, take, drop, refl, ap, sym, subst, ◌∙◌, arith}
-use Rattle.std.specs.Prelude.{ℤ, pos, map, sum_by, slice_get, option_map, if◌then◌else◌}
+use Rattle.std.proofs.Common.{◌≡◌, ℕ, zero, suc, ◌+◌, ◌-◌, ◌<◌, ◌≤◌, Bool, List, [], ◌∷◌, ◌++◌, Option, Some, None, Bor, length, get_or, take, drop, refl, ap, sym, subst, ◌∙◌, arith}
+use Rattle.std.specs.Prelude.{map, sum_by, slice_get, option_map}
 use Rattle.std.specs.Option.{option_map_or}
 use Rattle.std.proofs.lemmas.List.Sums.{sum_by-cons, get_or-le-sum_by}
 use Rattle.std.proofs.lemmas.Option.{slice_get_within, get_or_from_slice_get}
 use Rattle.std.proofs.lemmas.Grind.{common_steps}
-use Rattle.taco_unit.specs.declared.expr.Op.{Op}
 use Rattle.taco_unit.specs.declared.expr.Expr.{Expr}
-use Rattle.taco_unit.specs.declared.expr.Expr.TheVariants as e
 use Rattle.taco_unit.specs.declared.expr.Call.{Call, out-Call}
 use Rattle.taco_unit.specs.declared.stmt.Stmt.{Stmt}
-use Rattle.taco_unit.specs.declared.stmt.Stmt.TheVariants as s
 use Rattle.taco_unit.specs.declared.unit.MethodDef.{MethodDef}
 use Rattle.heap_core.specs.declared.value.Value.{Value}
-use Rattle.heap_core.specs.declared.value.Value.TheVariants.{Null, Flag}
-use Rattle.heap_core.specs.declared.value.Seen.{Seen}
-use Rattle.heap_core.specs.declared.value.Seen.TheVariants.{Is, Bad, Out}
 use Rattle.heap_core.specs.Posed.{Posed}
-use Rattle.heap_core.specs.Outcomes.{zero_of, negative, opposite}
-use Rattle.heap_core.specs.Exec.{Memory, Ends, Gives, Throws, Leaves, Exit, Goes, Returns, Stops, then_with, ends_as, on_object, gives_in, read, write, make, combined, in_order, target_of, exec, entered, call_of, after, on_branch, in_turn, set_local, stepped, step_field, turns, then_body, run_body, calls}
-use Rattle.heap_core.proofs.ExecForms.{code_num, code_flag, code_null, code_this, code_local, code_read, code_neg, code_not, code_bin, code_new, code_call, code_result, code_bound, code_quant, code_old, code_has, code_size, call_form, exec_block, exec_set, exec_write, exec_step_local, exec_step_field, exec_if, exec_while, exec_return, exec_run}
+use Rattle.heap_core.specs.Outcomes.{zero_of}
+use Rattle.heap_core.specs.Exec.{Memory, then_with, in_order, target_of, exec, entered, run_body, calls}
+use Rattle.heap_core.proofs.ExecForms.{call_form}
 use Rattle.heap_replay.specs.declared.machine.Activation.{Activation}
 use Rattle.heap_replay.specs.declared.machine.Machine.{Machine}
 use Rattle.heap_replay.specs.declared.machine.Wait.{Wait}
 use Rattle.heap_replay.specs.declared.machine.Wait.TheVariants as w
 use Rattle.heap_replay.specs.declared.machine.Task.{Task}
 use Rattle.heap_replay.specs.declared.machine.Task.TheVariants as task
-use Rattle.heap_replay.specs.Tasks.{given}
-use Rattle.heap_replay.specs.Onward.{Whole, Onward, frame_of, coded, done, exits, given_back, arguments, known, turned, onward, otherwise_of, all_onward}
-use Rattle.heap_replay.specs.Cost.{cost_of_code, cost_of_call, cost_of_rest, cost_of_stmt, cost_of_turns, call_cost, all_waiting, waits}
-use Rattle.heap_replay.specs.Machines.{memory, on_from, evaluated, executed, waiting, Keeps, Evaluated, Executed, Gained, Exits, on_called, Called, Argued, Started, Begun, Blocks, on_past, weight}
+use Rattle.heap_replay.specs.Onward.{frame_of, coded, given_back, arguments, otherwise_of, all_onward}
+use Rattle.heap_replay.specs.Cost.{cost_of_code, cost_of_rest, cost_of_stmt, call_cost}
+use Rattle.heap_replay.specs.Machines.{memory, on_from, waiting, Keeps, Called, Argued, Started, Begun}
 use Rattle.heap_replay.proofs.Keeping.{onward_more, waiting_more, keeps_from}
-use Rattle.heap_replay.proofs.Ends.{then_then, combined_then, target_then, argument_then, wanted_then, unwanted_then, exits_after, exits_again, exits_called, turns_first}
-use Rattle.heap_replay.proofs.Costs.{cost_num, cost_flag, cost_null, cost_this, cost_local, cost_read, cost_neg, cost_not, cost_bin, cost_new, cost_call, cost_result, cost_bound, cost_quant, cost_old, cost_has, cost_size, cost_form, cost_block, cost_set, cost_write, cost_step_local, cost_step_field, cost_if, cost_while, cost_return, cost_return_none, cost_run}
+use Rattle.heap_replay.proofs.Ends.{then_then, target_then, argument_then, exits_called}
+use Rattle.heap_replay.proofs.Costs.{cost_form}
 
 part_le : {X : Type 0} (f : X → ℕ) (xs : List X) (i : ℕ) (x : X) → slice_get xs i ≡ Some x → f x ≤ sum_by f xs
 part_le {X = X} f xs i x is =

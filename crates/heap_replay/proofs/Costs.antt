@@ -1,6 +1,6 @@
 -- One equation for each form of code: what it costs.
-use Rattle.std.proofs.Common.{◌≡◌, ℕ, zero, suc, ◌+◌, ◌*◌, ◌-◌, ◌<◌, ◌≤◌, Bool, List, [], ◌∷◌, Option, Some, None, refl, ap, ◌∙◌, arith}
-use Rattle.std.specs.Prelude.{ℤ, map, sum, sum_by, slice_get, option_map}
+use Rattle.std.proofs.Common.{◌≡◌, ℕ, ◌+◌, ◌*◌, Bool, List, Option, Some, None, refl, ap}
+use Rattle.std.specs.Prelude.{ℤ, sum_by}
 use Rattle.std.specs.Option.{option_map_or}
 use Rattle.std.proofs.lemmas.List.Sums.{sum-map}
 use Rattle.taco_unit.specs.declared.expr.Op.{Op}
@@ -12,7 +12,7 @@ use Rattle.taco_unit.specs.declared.expr.Expr.TheVariants as e
 use Rattle.taco_unit.specs.declared.stmt.Stmt.{Stmt, fold_out-Stmt}
 use Rattle.taco_unit.specs.declared.stmt.Stmt.TheVariants as s
 use Rattle.heap_core.specs.Posed.{Posed}
-use Rattle.heap_replay.specs.Cost.{step_code, step_call, step_stmt, cost_of_code, cost_of_call, cost_of_rest, cost_of_stmt, call_cost, cost_of_turns}
+use Rattle.heap_replay.specs.Cost.{step_code, step_call, step_stmt, cost_of_code, cost_of_call, cost_of_rest, cost_of_stmt}
 
 pub cost_num : (call : ℕ) (z : ℤ) → cost_of_code call (e.Num z) ≡ 2
 unfolding cost_of_code

@@ -10,7 +10,7 @@ use Rattle.heap_core.specs.declared.value.Value.{Value}
 use Rattle.heap_core.specs.declared.value.Value.TheVariants.{Null, Obj, Num, Flag}
 use Rattle.heap_core.specs.Posed.{Posed}
 use Rattle.heap_core.specs.Outcomes.{operated}
-use Rattle.heap_core.specs.Exec.{Memory, Ends, Gives, Throws, Leaves, Exit, Goes, Returns, Raises, Stops, Frame, Code, Body, then_with, ends_as, on_test, as_test, gives_in, combined, after, on_branch, then_do, then_body, turns, returned}
+use Rattle.heap_core.specs.Exec.{Memory, Ends, Gives, Throws, Leaves, Exit, Goes, Returns, Raises, Stops, Frame, Code, then_with, ends_as, on_test, as_test, gives_in, combined, after, on_branch, then_body, turns, returned}
 use Rattle.heap_replay.specs.declared.machine.Activation.{Activation}
 use Rattle.heap_replay.specs.declared.machine.Wait.TheVariants as w
 use Rattle.heap_replay.specs.Onward.{Whole, Onward, frame_of, coded, done, exits, given_back, known, turned, onward, otherwise_of}

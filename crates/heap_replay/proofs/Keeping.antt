@@ -1,5 +1,5 @@
 -- What a step owes where something is put before all that waits.
-use Rattle.std.proofs.Common.{◌≡◌, ℕ, suc, ◌+◌, ◌<◌, ◌≤◌, List, [], ◌∷◌, ◌++◌, Bor, arith, refl, ◌∙◌}
+use Rattle.std.proofs.Common.{◌≡◌, ℕ, ◌≤◌, List, [], ◌∷◌, ◌++◌, Bor, arith, refl, ◌∙◌}
 use Rattle.std.proofs.lemmas.List.Sums.{fold-append}
 use Rattle.taco_unit.specs.declared.expr.Expr.{Expr}
 use Rattle.taco_unit.specs.declared.stmt.Stmt.{Stmt}
@@ -8,7 +8,7 @@ use Rattle.heap_replay.specs.declared.machine.Machine.{Machine}
 use Rattle.heap_replay.specs.declared.machine.Wait.{Wait}
 use Rattle.heap_replay.specs.declared.machine.Task.{Task}
 use Rattle.heap_replay.specs.declared.machine.Task.TheVariants as task
-use Rattle.heap_replay.specs.Onward.{Whole, Onward, onward, last, all_onward}
+use Rattle.heap_replay.specs.Onward.{Whole, onward, last, all_onward}
 use Rattle.heap_replay.specs.Cost.{waits, all_waiting}
 use Rattle.heap_replay.specs.Machines.{Keeps, Evaluates, Executes}
 

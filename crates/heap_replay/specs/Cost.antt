@@ -1,5 +1,5 @@
 -- The most steps that a machine can take. It bounds a run from above, and is computed nowhere.
-use Rattle.std.specs.Prelude.{ℕ, zero, suc, ◌+◌, ◌*◌, List, fold, sum_by, sum, Option, Some, None}
+use Rattle.std.specs.Prelude.{ℕ, zero, suc, ◌+◌, ◌*◌, List, fold, sum_by, sum, Some, None}
 use Rattle.std.specs.Option.{option_map_or}
 use Rattle.taco_unit.specs.declared.expr.Expr.{Expr, fold-Expr}
 use Rattle.taco_unit.specs.declared.expr.Call.{Call, fold-Call}

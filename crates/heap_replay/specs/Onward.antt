@@ -1,6 +1,5 @@
 -- How a run goes on from what its machine has come to: what each thing that waits makes of what comes.
 use Rattle.std.specs.Prelude.{ℕ, zero, suc, Bool, true, false, if◌then◌else◌, List, [], ◌∷◌, ◌++◌, map, fold, Option, Some, None, option_map, option_and_then}
-use Rattle.taco_unit.specs.declared.expr.Op.{Op}
 use Rattle.taco_unit.specs.declared.expr.Expr.{Expr}
 use Rattle.taco_unit.specs.declared.stmt.Stmt.{Stmt}
 use Rattle.taco_unit.specs.declared.unit.MethodDef.{MethodDef}
@@ -8,7 +7,7 @@ use Rattle.heap_core.specs.declared.value.Value.{Value}
 use Rattle.heap_core.specs.declared.value.Value.TheVariants.{Flag}
 use Rattle.heap_core.specs.Posed.{Posed}
 use Rattle.heap_core.specs.Outcomes.{zero_of, opposite, negative, operated}
-use Rattle.heap_core.specs.Exec.{Memory, Ends, Gives, Throws, Leaves, Exit, Goes, Returns, Raises, Stops, Frame, Code, Body, Run, then_with, ends_as, on_test, on_object, read, write, combined, in_order, entered, code, after, on_branch, then_body, in_turn, set_local, step_field, turns, exec, calls}
+use Rattle.heap_core.specs.Exec.{Memory, Ends, Gives, Throws, Leaves, Exit, Goes, Returns, Raises, Stops, Frame, Code, Body, then_with, ends_as, on_test, on_object, read, write, combined, in_order, entered, code, after, on_branch, then_body, in_turn, set_local, step_field, turns, exec, calls}
 use Rattle.heap_core.specs.Start.{method_of}
 use Rattle.heap_replay.specs.declared.machine.Activation.{Activation}
 use Rattle.heap_replay.specs.declared.machine.Wait.{Wait}

@@ -1,9 +1,9 @@
 -- The steps of a call, joined.
-use Rattle.std.proofs.Common.{◌≡◌, ◌≢◌, ℕ, ◌<◌, List, [], length, Option, Some, None, IfSome, refl, sym, ap, ◌∙◌, subst, arith}
-use Rattle.std.specs.Prelude.{◌⊎◌, Result, Ok, Err, IfOk}
-use Rattle.std.proofs.Common.{inl, inr, ⊎_elim}
+use Rattle.std.proofs.Common.{◌≡◌, ◌≢◌, ℕ, List, [], length, Option, Some, None, refl, sym, ap, ◌∙◌, subst, arith}
+use Rattle.std.specs.Prelude.{◌⊎◌}
+use Rattle.std.proofs.Common.{inl, inr}
 use Rattle.no_memory.specs.declared.NoMemory.{NoMemory}
-use Rattle.taco_io.specs.Shelf.{Shelf, Stays, IsCalm}
+use Rattle.taco_io.specs.Shelf.{Shelf, IsCalm}
 use Rattle.taco_io.specs.Taken.{Taken}
 use Rattle.taco_run.specs.declared.answer.Evidence.{Evidence}
 use Rattle.taco_report.specs.declared.status.Status.{Status}
@@ -11,8 +11,8 @@ use Rattle.taco_report.specs.declared.status.Status.TheVariants as status
 use Rattle.taco_run.specs.declared.outcome.Outcome.{Outcome}
 use Rattle.taco_words.specs.declared.request.Request.{Request}
 use Rattle.taco_words.specs.declared.request.Request.TheVariants as request
-use Rattle.taco_run.specs.Headline.{FileRose, Leaves, Answers, Says, Runs}
-use Rattle.taco_run.specs.Steps.{IsAnswered, IsEnding, IsSilent, IsWritten}
+use Rattle.taco_run.specs.Headline.{Leaves, Answers, Says, Runs}
+use Rattle.taco_run.specs.Steps.{IsAnswered, IsSilent, IsWritten}
 
 -- want of memory is said with no output
 silent_says : (told : List ℕ → Option (List ℕ)) (asked : Option Request) (output : List ℕ) → output ≡ [] → Says told asked status.NoMemory output
@@ -44,26 +44,6 @@ spoken asked old new o ends whole calm leaves is says =
       no_read_fault = λ none. calm;
       leaves = leaves;
     })
-
--- and one that is
-pub unread : (asked : Option Request) (old new : Shelf) (o : Outcome) → FileRose asked old new → Leaves asked old new → IsSilent status.ReadFault o
-    → Says old.content asked status.ReadFault o.output.items → IsAnswered asked old new None o.status o.output.items
-unread asked old new o rose leaves silent says =
-    subst (λ s. IsAnswered asked old new None s o.output.items) (sym silent.status_is) (record {
-      says = says;
-      read_fault = λ is. rose;
-      no_read_fault = λ none. absurd (none refl);
-      leaves = leaves;
-    })
-
--- an outcome, or want of memory
-pub spoken_or_silent : (asked : Option Request) (old new : Shelf) (o : Outcome) (ends : Status) (output : List ℕ) → ends ≢ status.ReadFault → IsCalm old new → Leaves asked old new
-    → IsEnding ends output o → Says old.content asked ends output → IsAnswered asked old new None o.status o.output.items
-spoken_or_silent asked old new o ends output whole calm leaves ending says =
-    ⊎_elim
-    (λ is. spoken asked old new o ends whole calm leaves is.status_is (subst (Says old.content asked ends) (sym is.told) says))
-    (λ silent. silent_answered asked old new o calm leaves silent)
-    ending.is
 
 -- either the writing failed or it did not
 cut_or_not : (ends : Status) → (ends ≡ status.WriteFault) ⊎ (ends ≢ status.WriteFault)

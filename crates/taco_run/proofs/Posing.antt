@@ -1,6 +1,6 @@
 -- Requests that pose no problem, and the replay of one that does.
-use Rattle.std.proofs.Common.{◌≡◌, ◌≢◌, ℕ, ◌<◌, ◌≤◌, List, [], length, Option, Some, None, IfSome, refl, sym, ◌∙◌, subst, arith}
-use Rattle.std.specs.Prelude.{◌⊎◌, Result, Ok, Err, IfOk, codes}
+use Rattle.std.proofs.Common.{◌≡◌, ℕ, ◌≤◌, List, length, Option, Some, None, IfSome, refl, sym, ◌∙◌, subst, arith}
+use Rattle.std.specs.Prelude.{◌⊎◌, Result, Ok, Err, IfOk}
 use Rattle.std.proofs.Common.{inl, inr, ⊎_elim}
 use Rattle.heap_core.specs.declared.judged.Judged.{Judged}
 use Rattle.heap_core.specs.declared.judged.Judged.TheVariants as judged
@@ -8,34 +8,26 @@ use Rattle.heap_core.specs.declared.start.Start.{Start}
 use Rattle.heap_core.specs.Judge.{judged as judged_of}
 use Rattle.heap_core.specs.Posed.{Posed}
 use Rattle.no_memory.specs.declared.NoMemory.{NoMemory}
-use Rattle.refusals.specs.declared.refusal.Refusal.{Refusal}
-use Rattle.taco_io.specs.Counts.{Rose}
-use Rattle.taco_io.specs.Shelf.{Shelf, Stays, IsCalm, NameRose}
-use Rattle.taco_report.specs.declared.status.Status.{Status}
+use Rattle.taco_io.specs.Shelf.{Shelf, Stays, IsCalm}
 use Rattle.taco_report.specs.declared.status.Status.TheVariants as status
 use Rattle.heap_core.specs.Start.{Fits}
 use Rattle.taco_report.specs.declared.fault.StateFault.{StateFault}
 use Rattle.taco_report.specs.declared.fault.StateFault.TheVariants as fault
-use Rattle.taco_report.specs.RefusalLines.{refusal_line}
 use Rattle.taco_report.specs.States.{BlamesState, IsReadAs}
-use Rattle.taco_report.specs.Texts.{line, state_text}
+use Rattle.taco_report.specs.Texts.{state_text}
 use Rattle.taco_words.specs.declared.request.Job.{Job}
-use Rattle.taco_words.specs.declared.request.Request.{Request}
 use Rattle.taco_words.specs.declared.request.Request.TheVariants as request
 use Rattle.taco_run.specs.declared.outcome.Outcome.{Outcome}
-use Rattle.taco_run.specs.declared.outcome.TextEnd.{TextEnd}
 use Rattle.taco_run.specs.declared.outcome.TextEnd.TheVariants as end
 use Rattle.taco_run.specs.declared.problems.Unposed.{Unposed}
 use Rattle.taco_run.specs.declared.problems.Unposed.TheVariants as unposed
-use Rattle.taco_unit.specs.Parts.{Parts}
-use Rattle.source_units.specs.Reading.{Reads}
-use Rattle.taco_run.specs.Problems.{java_limit, Names, IsPosed, IsRefused, LacksMethod, HoldsProblem, PosedIn, Poses, FetchesProblem}
+use Rattle.taco_run.specs.Problems.{IsPosed, IsRefused, LacksMethod, HoldsProblem, Poses, FetchesProblem}
 use Rattle.taco_run.specs.ReplayCommand.{state_limit, status_of, IsNoState, IsState}
-use Rattle.taco_run.specs.Replaying.{IsShown, ReplaysText, shown, refused}
-use Rattle.taco_run.specs.Headline.{FileRose, Leaves, Says}
-use Rattle.taco_run.specs.Steps.{EndsText, EndsUnposed, IsAnswered, IsOrNoMemory, ReadsFile}
-use Rattle.taco_run.proofs.Joining.{silent_answered, spoken, spoken_or_silent, unread}
-use Rattle.taco_run.proofs.Deciding.{if_told_more, leaves_check}
+use Rattle.taco_run.specs.Replaying.{ReplaysText, shown, refused}
+use Rattle.taco_run.specs.Headline.{Leaves}
+use Rattle.taco_run.specs.Steps.{IsAnswered, IsOrNoMemory}
+use Rattle.taco_run.proofs.Joining.{silent_answered, spoken}
+use Rattle.taco_run.proofs.Deciding.{if_told_more}
 
 -- what holds of these bytes holds of what is told, if it is
 lifted : (P : List ℕ → Type 0) (bytes : List ℕ) (told : Option (List ℕ)) → IfSome told (λ xs. bytes ≡ xs) → P bytes → IfSome told P

@@ -1,6 +1,5 @@
 ghost use Rattle.std.specs.Prelude.{◌≡◌, None, IfOk};
 ghost use Rattle.taco_report.specs.Statuses.{IsRefusal};
-ghost use Rattle.taco_report.specs.declared.status.Status.TheVariants as status;
 ghost use Rattle.taco_run.specs.Steps.{EndsText, IsOrNoMemory, IsOutcome, IsSilent};
 ghost use Rattle.taco_report.specs.Texts.{line};
 ghost use Rattle.taco_report.specs.RefusalLines.{refusal_line};

@@ -1,5 +1,4 @@
 ghost use Rattle.std.specs.Prelude.{Some, IfOk};
-ghost use Rattle.taco_io.specs.Shelf.{Stays};
 ghost use Rattle.taco_words.specs.declared.request.Request.TheVariants as request;
 ghost use Rattle.taco_run.specs.Searches.{IsVerdict, TellsAnswer};
 ghost use Rattle.taco_run.specs.Steps.{IsAnswered};

@@ -1,4 +1,4 @@
-use Rattle.std.proofs.Common.{◌≡◌, sym, ◌∙◌}
+use Rattle.std.proofs.Common.{sym, ◌∙◌}
 use Rattle.heap_replay.proofs.Judging.{first_ensures_part, first_object_part, first_result_part}
 use Rattle.heap_replay.proofs.broken.first_broken.Goals as goal
 

@@ -1,12 +1,8 @@
-use Rattle.std.proofs.Common.{◌≡◌, ℕ, ◌+◌, ◌<◌, List, [], ◌∷◌, ◌++◌, Option, Some, None, Bor, inl, inr, refl, ap, sym, subst, ◌∙◌, arith}
+use Rattle.std.proofs.Common.{◌≡◌, inl, inr, ap, sym, ◌∙◌}
 use Rattle.std.specs.Prelude.{slice_get}
-use Rattle.taco_unit.specs.declared.expr.Expr.{Expr}
 use Rattle.taco_unit.specs.declared.expr.Expr.TheVariants as e
-use Rattle.taco_unit.specs.declared.expr.Call.{out-Call}
-use Rattle.taco_unit.specs.declared.stmt.Stmt.{Stmt}
-use Rattle.taco_unit.specs.declared.stmt.Stmt.TheVariants as s
 use Rattle.heap_core.specs.declared.value.Value.TheVariants as v
-use Rattle.heap_core.specs.Outcomes.{number, opposite, negative}
+use Rattle.heap_core.specs.Outcomes.{number}
 use Rattle.heap_core.specs.Exec.{Gives, Leaves, ends_as, gives_in, make, calls}
 use Rattle.heap_core.proofs.ExecForms.{code_num, code_flag, code_null, code_this, code_local, code_new, code_result, code_bound, code_quant, code_old, code_has, code_size}
 use Rattle.std.proofs.Common.{SFits, w32, rules}
@@ -14,7 +10,7 @@ use Rattle.std.proofs.lemmas.Int.{to_z-of_z}
 use Rattle.heap_replay.specs.Onward.{frame_of}
 use Rattle.heap_replay.specs.Cost.{call_cost}
 use Rattle.heap_replay.specs.Tasks.{given, given_in}
-use Rattle.heap_replay.specs.Machines.{memory, Gained}
+use Rattle.heap_replay.specs.Machines.{memory}
 use Rattle.heap_replay.proofs.Costs.{cost_num, cost_flag, cost_null, cost_this, cost_local, cost_new, cost_result, cost_bound, cost_quant, cost_old, cost_has, cost_size}
 use Rattle.heap_replay.proofs.CodeSteps.{evaluated_as, gained_at, gives_seen, gives_value, gives_nothing, gives_local, read_at, neg_at, not_at, bin_at, call_at}
 use Rattle.heap_replay.proofs.code.evaluate.Goals as goal

@@ -1,4 +1,3 @@
-use Rattle.std.proofs.Common.{◌≡◌, refl, ap, sym, ◌∙◌, arith}
 use Rattle.heap_replay.proofs.WaitSteps.{again_at}
 use Rattle.heap_replay.proofs.exits.again.Goals as goal
 

@@ -1,4 +1,3 @@
-use Rattle.std.proofs.Common.{◌≡◌, refl, ap, sym, ◌∙◌, arith}
 use Rattle.heap_replay.proofs.WaitSteps.{back_at}
 use Rattle.heap_replay.proofs.exits.go_back.Goals as goal
 

@@ -1,4 +1,3 @@
-use Rattle.std.proofs.Common.{◌≡◌, refl, ap, sym, ◌∙◌, arith}
 use Rattle.heap_replay.proofs.WaitSteps.{popped_value, empty_value}
 use Rattle.heap_replay.proofs.runs.give.Goals as goal
 

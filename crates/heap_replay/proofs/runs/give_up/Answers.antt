@@ -1,4 +1,3 @@
-use Rattle.std.proofs.Common.{◌≡◌, refl, ap, sym, ◌∙◌, arith}
 use Rattle.heap_replay.proofs.WaitSteps.{popped_return, empty_return}
 use Rattle.heap_replay.proofs.runs.give_up.Goals as goal
 

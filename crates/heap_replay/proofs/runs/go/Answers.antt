@@ -1,4 +1,3 @@
-use Rattle.std.proofs.Common.{◌≡◌, refl, ap, sym, ◌∙◌, arith}
 use Rattle.heap_replay.proofs.WaitSteps.{popped_end, empty_end}
 use Rattle.heap_replay.proofs.runs.go.Goals as goal
 

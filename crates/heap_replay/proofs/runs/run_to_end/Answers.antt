@@ -1,4 +1,4 @@
-use Rattle.std.proofs.Common.{◌≡◌, ℕ, ◌<◌, subst, ◌∙◌}
+use Rattle.std.proofs.Common.{ℕ, ◌<◌, subst, ◌∙◌}
 use Rattle.heap_replay.specs.Machines.{cost}
 use Rattle.heap_replay.proofs.WaitSteps.{most_cost}
 use Rattle.heap_replay.proofs.runs.run_to_end.Goals as goal
