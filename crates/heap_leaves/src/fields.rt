@@ -1,4 +1,4 @@
-ghost use Rattle.std.specs.Prelude.{◌≡◌, ◌==◌, ◌≤◌, Some, None, IfOk, IfSome, option_map, length, map, nat_lt, position, slice_get, slice_set, option_and_then, if◌then◌else◌};
+ghost use Rattle.std.specs.Prelude.{◌≡◌, ◌==◌, ◌≤◌, Some, None, false, IfOk, IfErr, IfSome, IfNone, option_map, length, map, nat_lt, position, slice_get, slice_set, option_and_then, if◌then◌else◌};
 ghost use Rattle.heap_core.specs.Heap.{field as field_lem, cell, place_of as place_of_lem, put, first_value as first_value_lem, grown};
 
 use crate::numbers::zero_of;
@@ -59,6 +59,7 @@ fn place_of(classes: &[ClassDef], class: u8, field: u8) -> Option<usize>
 fn set_cell(object: &mut Object, place: usize, value: Value) -> bool
     ensures object { object.new ≡ record object.old { cells = slice_set object.old.cells place value } }
     ensures there { result ≡ nat_lt place (length object.old.cells) }
+    ensures stays { result ≡ false → object.new ≡ object.old }
 {
     let there = place < object.cells.len();
     if there {
@@ -68,11 +69,12 @@ fn set_cell(object: &mut Object, place: usize, value: Value) -> bool
 }
 
 /// Sets a field of the object of this number in place, and says whether the heap has the object and
-/// the object the field. The heap keeps its number of objects. Linear in the class's fields. Takes
-/// no memory.
+/// the object the field; where they have not, the heap stays as it was. It keeps its number of
+/// objects. Linear in the class's fields. Takes no memory.
 pub fn write(unit: &Unit, heap: &mut Vec<Object>, field: u8, object: u8, value: Value) -> bool
     ensures heap { put unit.now.classes heap.old.items field object value ≡ (if result then Some heap.new.items else None) }
     ensures objects { length heap.new.items ≡ length heap.old.items }
+    ensures stays { result ≡ false → heap.new.items ≡ heap.old.items }
 {
     let object = usize::from(object);
     if object < heap.len() {
@@ -108,8 +110,8 @@ fn first_values(alloc: Global, fields: &[FieldDef], listed: &[u8]) -> Result<Ite
 }
 
 /// Adds a new object of the class, and answers its number. `None` where the unit lacks the class or
-/// the heap has no room for it: it never has more objects than the scope. Linear in the class's
-/// fields.
+/// the heap has no room for it: it never has more objects than the scope. Without a number the heap
+/// stays as it was. Linear in the class's fields.
 pub fn grow(
     alloc: Global,
     problem: &Problem,
@@ -119,6 +121,8 @@ pub fn grow(
     ensures heap { IfOk result (λ number. grown problem.now heap.old.items class ≡ option_map (λ o. heap.new.items) number) }
     ensures number { IfOk result (λ number. IfSome number (λ o. o ≡ length heap.old.items)) }
     ensures room { length heap.old.items ≤ problem.now.scope.objects → length heap.new.items ≤ problem.now.scope.objects }
+    ensures full { IfOk result (λ number. IfNone number (heap.new.items ≡ heap.old.items)) }
+    ensures no_memory { IfErr result (λ e. heap.new.items ≡ heap.old.items) }
 {
     if heap.len() >= usize::from(problem.scope.objects) {
         return Ok(None);

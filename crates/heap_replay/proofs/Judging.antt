@@ -1,8 +1,8 @@
 -- The steps of a judgement.
 use Rattle.std.proofs.Common.{◌≡◌, ℕ, suc, ◌+◌, ◌-◌, ◌≤◌, ◌<◌, Bool, true, false, List, [], ◌∷◌, ◌++◌, map, length, flat_map, Option, Some, None, refl, ap, ◌∙◌, arith}
 use Rattle.std.proofs.lemmas.List.{length-map}
-use Rattle.std.specs.Prelude.{if◌then◌else◌, filter_map, option_map, slice_get}
-use Rattle.std.specs.List.{enumerate_from, range_with_len}
+use Rattle.std.specs.Prelude.{if◌then◌else◌, filter, filter_map, is_some, option_map, slice_get}
+use Rattle.std.specs.List.{enumerate_from, list_any, range_with_len}
 use Rattle.std.specs.Option.{option_map_or}
 use Rattle.taco_unit.specs.declared.unit.Clause.{Clause}
 use Rattle.taco_unit.specs.declared.unit.ClassDef.{ClassDef}
@@ -36,6 +36,15 @@ first_in_front (y ∷ xs) ys x is = is
 pub first_behind : {A : Type 0} (xs ys : List A) → first xs ≡ None → first (xs ++ ys) ≡ first ys
 first_behind [] ys is = refl
 first_behind (y ∷ xs) ys is = absurd (cc)
+
+-- a list has an item of a kind exactly where it has a first one
+pub first_of_kind : {A : Type 0} (is : A → Bool) (xs : List A) → is_some (first (filter is xs)) ≡ list_any is xs
+first_of_kind is [] = refl
+first_of_kind is (x ∷ xs) = by_first (is x) refl (first_of_kind is xs)
+  where
+    by_first : (b : Bool) → is x ≡ b → is_some (first (filter is xs)) ≡ list_any is xs → is_some (first (filter is (x ∷ xs))) ≡ list_any is (x ∷ xs)
+    by_first true this rest = rw this refl
+    by_first false this rest = rw this rest
 
 -- of what is made of the items of a list, the first is made of its first
 pub first_made : {A B : Type 0} (f : A → B) (xs : List A) → first (map f xs) ≡ option_map f (first xs)

@@ -8,10 +8,10 @@ use Rattle.heap_core.specs.Posed.{Posed}
 use Rattle.heap_core.specs.Heap.{Heap}
 use Rattle.heap_core.specs.Exec.{Ends, Gives, Throws, Leaves}
 use Rattle.heap_core.specs.Judge.{judged, run_of}
-use Rattle.heap_replay.specs.declared.machine.Outcome.{Outcome}
-use Rattle.heap_replay.specs.declared.machine.Outcome.TheVariants.{Thrown, Unknown}
+use Rattle.heap_run.specs.declared.machine.Outcome.{Outcome}
+use Rattle.heap_run.specs.declared.machine.Outcome.TheVariants.{Thrown, Unknown}
 use Rattle.heap_replay.specs.declared.replays.Replayed.{Replayed}
-use Rattle.heap_replay.specs.Tasks.{outcome_of}
+use Rattle.heap_run.specs.Tasks.{outcome_of}
 
 -- how a run ends, and the heap that it leaves
 abbrev pub outcome_in : Ends (Option Value) → Outcome

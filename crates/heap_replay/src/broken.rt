@@ -1,11 +1,11 @@
 ghost use Rattle.std.specs.Prelude.{◌≡◌, ◌≤◌, length, flat_map, IfOk};
-ghost use Rattle.heap_core.specs.Judge.{broken_at as broken_at_lem, numbers_of, missing_at, judged_end as judged_end_lem};
-ghost use Rattle.taco_unit.specs.Well.{IsWell};
+ghost use Rattle.heap_core.specs.Judge.{broken_at as broken_at_lem, numbers_of, judged_end as judged_end_lem};
 ghost use Rattle.heap_replay.specs.Firsts.{first, parts_of, untrue_from};
 
 use crate::clauses::{all_invariants, any_out, count_of, gives_of, invariants_at, is_true};
-use crate::good::{fields_at, is_missing, lacks_result};
+use crate::good::{first_missing, lacks_result};
 use heap_core::{Judged, Object, Part, Problem, Seen, Start, Value};
+use heap_leaves::well_posed;
 use no_memory::NoMemory;
 use std::alloc::Global;
 
@@ -17,25 +17,6 @@ fn first_untrue(values: &[Seen]) -> Option<u8>
     for (place, value) in values.iter().enumerate() {
         if !is_true(*value) {
             return Some(place as u8 + 1);
-        }
-    }
-    None
-}
-
-/// The unit is well, so that a class has at most 255 invariants and a method 255 clauses of a kind.
-fn clauses_are_few(problem: &Problem)
-    ensures { IsWell problem.now.unit }
-{
-    let _classes = &problem.unit.classes;
-}
-
-/// The first field of an object that is null and must not be.
-fn first_missing(problem: &Problem, heap: &[Object], object: u8) -> Option<u8>
-    ensures { result ≡ first (missing_at problem.now heap.now object) }
-{
-    for field in fields_at(problem, heap, object) {
-        if is_missing(problem, heap, object, *field) {
-            return Some(*field);
         }
     }
     None
@@ -54,7 +35,7 @@ fn broken_at(
     if let Some(field) = first_missing(problem, heap, object) {
         return Ok(Some(Part::NonNull(object, field)));
     }
-    clauses_are_few(problem);
+    well_posed(problem);
     let invariants = invariants_at(alloc, problem, heap, object)?;
     match first_untrue(invariants.as_slice()) {
         Some(number) => Ok(Some(Part::Invariant(number, object))),
@@ -114,7 +95,7 @@ pub fn judged_end(
     if any_out(gives.as_slice()) || any_out(invariants.as_slice()) {
         return Ok(Judged::Outside);
     }
-    clauses_are_few(problem);
+    well_posed(problem);
     match first_broken(alloc, problem, gives.as_slice(), returned, heap)? {
         Some(part) => Ok(Judged::Breaks(part)),
         None => Ok(Judged::Meets),

@@ -4,9 +4,9 @@ ghost use Rattle.heap_core.specs.Outcomes.{is_out as is_out_lem, is_true as is_t
 ghost use Rattle.heap_core.specs.Judge.{values_of as values_of_lem, invariants_of as invariants_of_lem, invariants_at as invariants_at_lem, all_invariants as all_invariants_lem, needs_of as needs_of_lem, gives_of as gives_of_lem, invariant_env};
 ghost use Rattle.heap_eval.specs.Environs.{env_of, IsWithin};
 
-use crate::runs::method_at;
 use heap_core::{Object, Problem, Seen, Start, Value};
 use heap_eval::{Environment, evaluate};
+use heap_leaves::method_in;
 use no_memory::NoMemory;
 use sqlite_items::{Items, at};
 use std::alloc::Global;
@@ -114,7 +114,7 @@ pub fn needs_of(alloc: Global, problem: &Problem, start: &Start) -> Result<Items
         heap,
         before: heap,
     };
-    values_of(alloc, env, method_at(problem).needs.as_slice())
+    values_of(alloc, env, method_in(problem).needs.as_slice())
 }
 
 /// The values of the method's `ensures` clauses, where it gives this result and this heap.
@@ -138,7 +138,7 @@ pub fn gives_of(
         heap,
         before: start.objects.as_slice(),
     };
-    values_of(alloc, env, method_at(problem).gives.as_slice())
+    values_of(alloc, env, method_in(problem).gives.as_slice())
 }
 
 /// Whether a scope was left.

@@ -1,11 +1,12 @@
 ghost use Rattle.std.specs.Prelude.{◌≡◌, ◌≤◌, ◌&&◌, length, zip, IfOk};
 ghost use Rattle.std.specs.List.{list_any};
 ghost use Rattle.heap_core.specs.Outcomes.{is_null as is_null_lem, gives_null as gives_null_lem};
-ghost use Rattle.heap_core.specs.Judge.{must_be_there as must_be_there_lem, is_missing as is_missing_lem, fields_at as fields_at_lem, is_good_at as is_good_at_lem, is_good as is_good_lem, lacks_argument as lacks_argument_lem, lacks_result as lacks_result_lem, is_asked as is_asked_lem, needs_of as needs_of_lem};
+ghost use Rattle.heap_core.specs.Judge.{must_be_there as must_be_there_lem, is_missing as is_missing_lem, fields_at as fields_at_lem, missing_at, is_good_at as is_good_at_lem, is_good as is_good_lem, lacks_argument as lacks_argument_lem, lacks_result as lacks_result_lem, is_asked as is_asked_lem, needs_of as needs_of_lem};
+ghost use Rattle.heap_replay.specs.Firsts.{first};
 
 use crate::clauses::{all_true, count_of, invariants_at};
-use crate::runs::method_at;
 use heap_core::{Object, Problem, Seen, Start, Value};
+use heap_leaves::method_in;
 use no_memory::NoMemory;
 use sqlite_items::at;
 use std::alloc::Global;
@@ -40,7 +41,7 @@ fn gives_null(seen: Seen) -> bool
 }
 
 /// Whether this field of an object is null and must not be. Linear in the fields of the object's class.
-pub fn is_missing(problem: &Problem, heap: &[Object], object: u8, field: u8) -> bool
+fn is_missing(problem: &Problem, heap: &[Object], object: u8, field: u8) -> bool
     ensures { result ≡ is_missing_lem problem.now heap.now object field }
 {
     match at(problem.unit.fields.as_slice(), usize::from(field)) {
@@ -53,7 +54,7 @@ pub fn is_missing(problem: &Problem, heap: &[Object], object: u8, field: u8) -> 
 }
 
 /// The fields of the class of an object.
-pub fn fields_at<'a>(problem: &'a Problem, heap: &[Object], object: u8) -> &'a [u8]
+fn fields_at<'a>(problem: &'a Problem, heap: &[Object], object: u8) -> &'a [u8]
     ensures { result.now ≡ fields_at_lem problem.now heap.now object }
 {
     match at(heap, usize::from(object)) {
@@ -65,19 +66,20 @@ pub fn fields_at<'a>(problem: &'a Problem, heap: &[Object], object: u8) -> &'a [
     }
 }
 
-/// Whether a field of an object is null and must not be.
-fn lacks_field(problem: &Problem, heap: &[Object], object: u8) -> bool
-    ensures { result ≡ list_any (is_missing_lem problem.now heap.now object) (fields_at_lem problem.now heap.now object) }
+/// The first field of an object that is null and must not be.
+pub fn first_missing(problem: &Problem, heap: &[Object], object: u8) -> Option<u8>
+    ensures { result ≡ first (missing_at problem.now heap.now object) }
 {
     for field in fields_at(problem, heap, object) {
         if is_missing(problem, heap, object, *field) {
-            return true;
+            return Some(*field);
         }
     }
-    false
+    None
 }
 
 /// Whether an object has no missing field and its invariants are true.
+#[tactic(auto, using(crate::proofs::Judging::first_of_kind))]
 fn is_good_at(
     alloc: Global,
     problem: &Problem,
@@ -87,9 +89,9 @@ fn is_good_at(
     requires { length heap.now ≤ problem.now.scope.objects }
     ensures { IfOk result (λ good. good ≡ is_good_at_lem problem.now heap.now object) }
 {
-    let lacks = lacks_field(problem, heap, object);
+    let whole = first_missing(problem, heap, object).is_none();
     let invariants = invariants_at(alloc, problem, heap, object)?;
-    Ok(!lacks && all_true(invariants.as_slice()))
+    Ok(whole && all_true(invariants.as_slice()))
 }
 
 /// Whether every object is so.
@@ -105,31 +107,38 @@ fn is_good(alloc: Global, problem: &Problem, heap: &[Object]) -> Result<bool, No
     Ok(true)
 }
 
-/// Whether one of these parameters is null and must not be.
+/// Whether this argument is null and must not be.
+fn lacks(param: &ParamDef, arg: Value) -> bool
+    ensures { result ≡ (must_be_there_lem param.now.kind param.now.nullable && is_null_lem arg) }
+{
+    must_be_there(param.kind, param.nullable) && is_null(arg)
+}
+
+/// Whether one of these arguments is null and must not be.
 fn lacks_one(params: &[ParamDef], args: &[Value]) -> bool
     ensures { result ≡ list_any (λ e. must_be_there_lem e.0.kind e.0.nullable && is_null_lem e.1) (zip params.now args.now) }
 {
-    let Some((param, params)) = params.split_first() else {
-        return false;
-    };
-    let Some((arg, args)) = args.split_first() else {
-        return false;
-    };
-    must_be_there(param.kind, param.nullable) && is_null(*arg) || lacks_one(params, args)
+    let count = params.len().min(args.len());
+    for i in 0..count {
+        if lacks(&params[i], args[i]) {
+            return true;
+        }
+    }
+    false
 }
 
-/// Whether a parameter is null and must not be.
+/// Whether an argument is null and must not be.
 fn lacks_argument(problem: &Problem, start: &Start) -> bool
     ensures { result ≡ lacks_argument_lem problem.now start.now }
 {
-    lacks_one(method_at(problem).params.as_slice(), start.args.as_slice())
+    lacks_one(method_in(problem).params.as_slice(), start.args.as_slice())
 }
 
 /// Whether the result is null and must not be.
 pub fn lacks_result(problem: &Problem, returned: Option<Value>) -> bool
     ensures { result ≡ lacks_result_lem problem.now returned }
 {
-    match (returned, &method_at(problem).result) {
+    match (returned, &method_in(problem).result) {
         (Some(value), Some((kind, nullable))) => {
             must_be_there(*kind, *nullable) && is_null(value)
         }

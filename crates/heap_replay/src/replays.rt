@@ -1,15 +1,14 @@
 ghost use Rattle.std.specs.Prelude.{◌≡◌, ◌≤◌, [], false, length, IfOk};
 ghost use Rattle.heap_core.specs.Judge.{judged_run as judged_run_lem, run_of};
-ghost use Rattle.heap_replay.specs.declared.machine.Outcome.TheVariants.{Unknown};
-ghost use Rattle.heap_replay.specs.Machines.{Runs};
+ghost use Rattle.heap_run.specs.declared.machine.Outcome.TheVariants.{Unknown};
+ghost use Rattle.heap_run.specs.Runs.{Runs};
 ghost use Rattle.heap_replay.specs.Replays.{IsKnown, is_of_run, replayed, shown_with};
 
 use crate::broken::judged_end;
 use crate::clauses::{all_invariants, any_out, needs_of};
 use crate::good::is_asked;
-use crate::machine::Outcome;
-use crate::runs::{RunEnd, run};
 use heap_core::{Judged, Object, Part, Problem, Start};
+use heap_run::{Outcome, RunEnd, run};
 use no_memory::NoMemory;
 use sqlite_items::Items;
 use std::alloc::Global;
@@ -24,26 +23,7 @@ pub struct Replayed {
     pub end_heap: Items<Object>,
 }
 
-/// What is shown with a judgement, where the run ends so.
-fn shown(alloc: Global, judged: Judged, end: RunEnd) -> Replayed
-    ensures { result ≡ shown_with judged end.outcome end.heap }
-{
-    let RunEnd { outcome, heap } = end;
-    match judged {
-        Judged::Outside | Judged::NotAsked => Replayed {
-            judged,
-            result: Outcome::Unknown,
-            end_heap: Items::new(alloc),
-        },
-        Judged::Breaks(_) | Judged::Meets => Replayed {
-            judged,
-            result: outcome,
-            end_heap: heap,
-        },
-    }
-}
-
-/// What is shown where there is no run.
+/// What is shown where the judgement is not one of the run.
 fn untold(alloc: Global, judged: Judged) -> Replayed
     requires { is_of_run judged ≡ false }
     ensures { result ≡ record { judged = judged; result = Unknown; end_heap = [] } }
@@ -52,6 +32,21 @@ fn untold(alloc: Global, judged: Judged) -> Replayed
         judged,
         result: Outcome::Unknown,
         end_heap: Items::new(alloc),
+    }
+}
+
+/// What is shown with a judgement, where the run ends so.
+fn shown(alloc: Global, judged: Judged, end: RunEnd) -> Replayed
+    ensures { result ≡ shown_with judged end.outcome end.heap }
+{
+    let RunEnd { outcome, heap } = end;
+    match judged {
+        Judged::Outside | Judged::NotAsked => untold(alloc, judged),
+        Judged::Breaks(_) | Judged::Meets => Replayed {
+            judged,
+            result: outcome,
+            end_heap: heap,
+        },
     }
 }
 

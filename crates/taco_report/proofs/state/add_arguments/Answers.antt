@@ -3,7 +3,7 @@ use Rattle.std.specs.Prelude.{zip}
 use Rattle.taco_unit.specs.declared.unit.ParamDef.{ParamDef}
 use Rattle.heap_core.specs.declared.value.Value.{Value}
 use Rattle.taco_report.specs.Texts.{argument_line}
-use Rattle.taco_report.proofs.Lines.{no_pairs}
+use Rattle.heap_replay.proofs.Pairs.{no_pairs}
 use Rattle.taco_report.proofs.state.add_arguments.Goals as goal
 
 pub returns : goal.returns

@@ -2,7 +2,7 @@ use Rattle.std.proofs.Common.{◌≡◌, ◌++◌, List, [], ℕ, drop, flat_map
 use Rattle.std.specs.Prelude.{zip}
 use Rattle.heap_core.specs.declared.value.Value.{Value}
 use Rattle.taco_report.specs.Texts.{cell_text}
-use Rattle.taco_report.proofs.Lines.{no_pairs}
+use Rattle.heap_replay.proofs.Pairs.{no_pairs}
 use Rattle.taco_report.proofs.state.add_cells.Goals as goal
 
 pub returns : goal.returns

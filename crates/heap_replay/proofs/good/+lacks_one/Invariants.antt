@@ -1,5 +1,0 @@
-use Rattle.std.proofs.Common.{length}
-use Rattle.heap_replay.proofs.good.+lacks_one.Given as goal
-
-abbrev pub decreases-lacks_one : goal.decreases-lacks_one
-decreases-lacks_one l = length l.params.now

@@ -1,0 +1,5 @@
+pub mod Onward
+pub mod Cost
+pub mod Tasks
+pub mod Runs
+pub mod Machines
