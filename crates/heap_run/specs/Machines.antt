@@ -1,5 +1,5 @@
 -- What a machine comes to.
-use Rattle.std.specs.Prelude.{◌≡◌, ℕ, suc, ◌+◌, ◌-◌, ◌≤◌, ◌<◌, Bool, List, length, map, sum_by, slice_get, Option, Some, None, option_map}
+use Rattle.std.specs.Prelude.{◌≡◌, ℕ, suc, ◌+◌, ◌-◌, ◌<◌, Bool, List, map, sum_by, slice_get, Option, Some, option_map}
 use Rattle.std.specs.Option.{option_map_or}
 use Rattle.std.specs.Borrow.{Bor}
 use Rattle.taco_unit.specs.declared.expr.Op.{Op}
@@ -9,8 +9,7 @@ use Rattle.taco_unit.specs.declared.stmt.Stmt.{Stmt}
 use Rattle.taco_unit.specs.declared.unit.MethodDef.{MethodDef}
 use Rattle.heap_core.specs.declared.value.Value.{Value}
 use Rattle.heap_core.specs.Posed.{Posed}
-use Rattle.heap_core.specs.Heap.{Heap}
-use Rattle.heap_core.specs.Exec.{Memory, Ends, Gives, Throws, Leaves, Exit, Goes, then_with, on_object, gives_in, read, write, make, entered, call_of, after, in_turn, set_local, stepped, step_field, give_back, run_body, calls}
+use Rattle.heap_core.specs.Exec.{Memory, Ends, Exit, Goes, then_with, on_object, gives_in, read, write, make, entered, call_of, after, in_turn, set_local, stepped, step_field, give_back, run_body, calls}
 use Rattle.heap_run.specs.declared.machine.Activation.{Activation}
 use Rattle.heap_run.specs.declared.machine.Machine.{Machine}
 use Rattle.heap_run.specs.declared.machine.Wait.{Wait}

@@ -3,8 +3,8 @@ use Rattle.std.specs.Prelude.{ℕ, List, [], ◌++◌, codes, if◌then◌else�
 use Rattle.heap_core.specs.declared.judged.Judged.{Judged}
 use Rattle.heap_core.specs.declared.judged.Judged.TheVariants as judged
 use Rattle.heap_core.specs.Posed.{Posed}
-use Rattle.heap_replay.specs.declared.machine.Outcome.{Outcome}
-use Rattle.heap_replay.specs.declared.machine.Outcome.TheVariants as outcome
+use Rattle.heap_run.specs.declared.machine.Outcome.{Outcome}
+use Rattle.heap_run.specs.declared.machine.Outcome.TheVariants as outcome
 use Rattle.heap_replay.specs.declared.replays.Replayed.{Replayed}
 use Rattle.heap_replay.specs.Replays.{is_of_run}
 use Rattle.taco_report.specs.Texts.{line, value_text, heap_text}

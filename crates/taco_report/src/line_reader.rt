@@ -1,19 +1,17 @@
 ghost use Rattle.std.specs.Prelude.{◌≡◌, ◌++◌, ◌≤◌, ℕ, List, [], nat_lt, option_map, slice_get, Some, flat_map, zip, IsTrue, IfOk, IfSome, IfNone, MatchOption};
 ghost use Rattle.std.specs.Cmp.Lexicographic.{pointwise};
 ghost use Rattle.heap_core.specs.declared.value.Value.{Value};
-ghost use Rattle.heap_core.specs.Posed.{InRange};
-ghost use Rattle.heap_core.specs.Start.{method_of};
-ghost use Rattle.taco_unit.specs.Well.{IsWell};
 ghost use Rattle.taco_report.specs.Texts.{argument_line as argument_line_of, cell_text, object_line as object_line_of, objects_line, this_line, this_value};
 ghost use Rattle.taco_report.specs.States.{NoLine, ends, is_cell, is_given, is_listed, is_named, is_receiver_named};
 
 use crate::state::{field_name, fields_in};
 use crate::value_reader::{behind, number_below, object_of, value, word_of};
 use heap_core::{Object, Problem, Value};
+use heap_leaves::{method_in, well_posed};
 use no_memory::NoMemory;
 use sqlite_items::Items;
 use std::alloc::Global;
-use taco_unit::{Kind, MethodDef, ParamDef};
+use taco_unit::{Kind, ParamDef};
 
 /// The number of objects on the first line, and what stands behind the line.
 pub(crate) fn count_line(alloc: Global, text: &[u8]) -> Result<Option<(u8, &[u8])>, NoMemory>
@@ -96,16 +94,6 @@ fn add_read_cells<'a>(
     }
 }
 
-/// What is so of every problem. Its unit is well: a name has no space and no line feed, and no two
-/// classes have one. Its scope is small: a text can tell of all objects and numbers within it.
-pub(crate) fn well_posed(problem: &Problem)
-    ensures unit { IsWell problem.now.unit }
-    ensures scope { InRange problem.now }
-{
-    let _classes = &problem.unit.classes;
-    let _scope = problem.scope;
-}
-
 /// An object on its line, which begins with its number, and what stands behind the line.
 pub(crate) fn object_line<'a>(
     alloc: Global,
@@ -135,13 +123,6 @@ pub(crate) fn object_line<'a>(
         Some(rest) => Ok(Some((Object { class, cells }, rest))),
         None => Ok(None),
     }
-}
-
-/// The method that is judged.
-fn method_in(problem: &Problem) -> &MethodDef
-    ensures { method_of problem.now ≡ Some result.now }
-{
-    &problem.unit.methods.as_slice()[usize::from(problem.method)]
 }
 
 /// The receiver that is written so: an object below `count`, or none of a static method.

@@ -5,6 +5,7 @@ ghost use Rattle.taco_report.specs.Texts.{argument_line, cell_text, field_text, 
 use crate::parts::add_class;
 use crate::writing::{add, add_number, add_object, add_value};
 use heap_core::{Object, Problem, Start, Value};
+use heap_leaves::method_in;
 use no_memory::NoMemory;
 use std::alloc::Global;
 use taco_unit::ParamDef;
@@ -56,10 +57,7 @@ fn add_arguments(
 pub(crate) fn params_in(problem: &Problem) -> &[ParamDef]
     ensures { result.now ≡ params_of problem.now }
 {
-    match problem.unit.methods.as_slice().get(problem.method as usize) {
-        Some(method) => method.params.as_slice(),
-        None => &[],
-    }
+    method_in(problem).params.as_slice()
 }
 
 /// The name of the field of this number.

@@ -10,9 +10,10 @@ ghost use Rattle.taco_unit.specs.declared.unit.ParamDef.{ParamDef};
 ghost use Rattle.taco_report.specs.States.{BlamesState, IsReadAs, IsStateText, NoLine, argument_lines as argument_lines_of, is_given, is_listed, object_lines as object_lines_of};
 
 use crate::fault::StateFault;
-use crate::line_reader::{argument_line, count_line, object_line, receiver_line, well_posed};
+use crate::line_reader::{argument_line, count_line, object_line, receiver_line};
 use crate::state::params_in;
 use heap_core::{Object, Problem, Start, Value};
+use heap_leaves::well_posed;
 use no_memory::NoMemory;
 use sqlite_items::Items;
 use std::alloc::Global;

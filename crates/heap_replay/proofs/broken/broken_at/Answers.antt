@@ -10,7 +10,7 @@ use Rattle.heap_replay.proofs.broken.broken_at.Goals as goal
 
 pub first_untrue-requires : goal.first_untrue-requires
 first_untrue-requires c =
-    let few = invariants_few c.args.problem.now c.args.heap.now c.args.object c.clauses_are_few.ensures in
+    let few = invariants_few c.args.problem.now c.args.heap.now c.args.object c.well_posed.ensures.unit in
     let is : c.as_slice.result.now ≡ invariants_at c.args.problem.now c.args.heap.now c.args.object = c.as_slice.ensures ∙ c.in_ok-invariants.ensures in
     subst (λ (vs : List Seen). length vs ≤ 255) (sym is) few
 
