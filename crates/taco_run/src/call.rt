@@ -83,9 +83,12 @@ fn finish<K: Sink>(sink: &mut K, outcome: &Outcome) -> Status
 }
 
 /// Does what the words of a command line ask for (`request_of` has the commands and their options).
-/// `check FILE --class C --method M [scope] [plan] [--conflicts B]` prints whether the method keeps its
-/// contract within the scope that was asked for; plan and B change nothing so far. What `run_plain` serves
-/// is done as there. `bounds` and `stress`, which are to come, are refused as every other list of words is. The whole output is made before the first byte is pushed.
+/// The whole output is made before the first byte is pushed.
+///
+/// `check FILE --class C --method M [scope] [plan] [--conflicts B]` prints whether the method keeps
+/// its contract within the scope that was asked for; plan and B change nothing so far. What
+/// `run_plain` serves is done as there. `bounds` and `stress`, which are to come, are refused as
+/// every other list of words is.
 #[tactic(auto, using(crate::proofs::Joining::ran))]
 pub fn run<F: Files, K: Sink>(alloc: Global, words: &[&str], files: &mut F, sink: &mut K) -> Answer
     ensures { Runs (served (asked (map (λ w. w.now) words.now))) result.proof result.status (F.shelf files.old) (F.shelf files.new) (K.taken sink.old) (K.taken sink.new) }
@@ -95,31 +98,33 @@ pub fn run<F: Files, K: Sink>(alloc: Global, words: &[&str], files: &mut F, sink
     Answer { status, proof }
 }
 
-/// Does what the words of a command line ask for, but for checks. `replay FILE STATE --class C --method M
-/// [scope]` runs the method on the start that STATE says, and prints the judgement: `judged meets`, `judged
-/// breaks PART` with Broken, `judged notasked` where the start does not meet the precondition, and `judged
-/// outside` where a scope is left. After the first two it prints how the run ended and the heap that it left.
-/// FILE is read through slot 0, and STATE through slot 1 where FILE holds the method; each has at most 262,144
-/// bytes. Refusals in their order: a read fault or `toolong` of FILE, `source ..`, `nomethod`, a read fault or
-/// `toolong` of STATE, and `badstate AT` with the place of the first line that is not right, in bytes.
+/// Does what the words of a command line ask for, but for checks. It waits for nobody, and the whole
+/// output is made before the first byte is pushed. Every other list of words is refused with `usage`.
 ///
-/// `proof CNF LOG` checks the log in LOG
-/// over the formula in CNF. It prints `refuted N` where each of the N lines follows from the formula's
-/// clauses and the lines before it and the last one is empty, so that the formula has no solution;
-/// `valid N` where they follow and it is not; both are Done. It prints `badline N` with Broken where line
-/// N, counted from 1, is the first that does not follow.
+/// `replay FILE STATE --class C --method M [scope]` runs the method on the start that STATE says, and
+/// prints the judgement: `judged meets`, `judged breaks PART` with Broken, `judged notasked` where the
+/// start does not meet the precondition, and `judged outside` where a scope is left. After the first
+/// two it prints how the run ended and the heap that it left. FILE is read through slot 0, and STATE
+/// through slot 1 where FILE holds the method; each has at most 262,144 bytes. Refusals in their
+/// order: a read fault or `toolong` of FILE, `source ..`, `nomethod`, a read fault or `toolong` of
+/// STATE, and `badstate AT` with the place of the first line that is not right, in bytes. The cost is
+/// the length of the texts, the steps of the run and the evaluation of the clauses.
 ///
-/// `sat CNF [--conflicts B]` searches for values that satisfy the formula in CNF. Done comes
-/// with `s SATISFIABLE` and the line of the values, or with `s UNSATISFIABLE` and the text of a log that
-/// refutes the formula. `s UNKNOWN` comes with Unknown where B lines were learnt without a verdict; where B
-/// is 0 or not given it never comes. With these three the answer has its evidence. A search always ends,
-/// but its time may grow exponentially with the number of variables.
+/// `proof CNF LOG` checks the log in LOG over the formula in CNF. It prints `refuted N` where each of
+/// the N lines follows from the formula's clauses and the lines before it and the last one is empty,
+/// so that the formula has no solution; `valid N` where they follow and it is not; both are Done. It
+/// prints `badline N` with Broken where line N, counted from 1, is the first that does not follow.
+///
+/// `sat CNF [--conflicts B]` searches for values that satisfy the formula in CNF. Done comes with
+/// `s SATISFIABLE` and the line of the values, or with `s UNSATISFIABLE` and the text of a log that
+/// refutes the formula. `s UNKNOWN` comes with Unknown where B lines were learnt without a verdict;
+/// where B is 0 or not given it never comes. With these three the answer has its evidence. A search
+/// always ends, but its time may grow exponentially with the number of variables.
 ///
 /// CNF is a DIMACS CNF text, read through slot 0, and LOG is read through slot 1 where CNF holds a
-/// formula; each has at most 4,194,304 bytes. Refusals in their order: `usage` for every other list of
-/// words; for CNF and then for LOG a read fault, `toolong`, and `badtext SLOT AT` with the place of the
-/// first fault in bytes. The cost is the length of the texts and of the hinted clauses, each as often as
-/// it is named. It waits for nobody, and the whole output is made before the first byte is pushed.
+/// formula; each has at most 4,194,304 bytes. Refusals in their order, for CNF and then for LOG: a
+/// read fault, `toolong`, and `badtext SLOT AT` with the place of the first fault in bytes. The cost
+/// of a check is the length of the texts and of the hinted clauses, each as often as it is named.
 #[tactic(auto, using(crate::proofs::Joining::ran))]
 pub fn run_plain<F: Files, K: Sink>(
     alloc: Global,
