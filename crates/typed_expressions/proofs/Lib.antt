@@ -1,3 +1,4 @@
 pub mod Told
 pub mod Positions
+pub mod Firsts
 pub mod Arms

@@ -2,6 +2,7 @@ pub mod Faults
 pub mod Seen
 pub mod Sorts
 pub mod Lookups
+pub mod Firsts
 pub mod Operators
 pub mod Calls
 pub mod Clauses

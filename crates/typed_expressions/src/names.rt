@@ -1,37 +1,42 @@
-ghost use Rattle.std.specs.Prelude.{◌≡◌, ◌∷◌, ◌++◌, [], length, position, OnOk};
-ghost use Rattle.typed_expressions.specs.Lookups.{is_key as is_key_lem, place_in};
+ghost use Rattle.std.specs.Prelude.{◌≡◌, ◌∷◌, ◌++◌, [], length, OnOk, OnErr};
+ghost use Rattle.indexmap.specs.IndexMap.{get, IsUnchanged};
+ghost use Rattle.typed_expressions.specs.Firsts.{same_key, NotesFirst};
+ghost use Rattle.typed_expressions.specs.Lookups.{place_in};
 
+use indexmap::IndexMap;
 use no_memory::NoMemory;
 use std::alloc::Global;
 use std::marker::Model;
 
 /// A name, and the number of the class that it is declared in; 0 for a class or a parameter.
-#[derive(Clone, Copy)]
+#[derive(Clone, Copy, PartialEq, Eq, Hash)]
 struct Key<'t> {
     owner: usize,
     name: &'t [u8],
 }
 
-impl Key<'_> {
-    ghost use Rattle.typed_expressions.specs.Lookups.{is_key};
-
-    fn is(&self, owner: usize, name: &[u8]) -> bool
-        ensures { result ≡ is_key owner name.now (self.now.owner, self.now.name.now) }
-    {
-        self.owner == owner && self.name == name
-    }
-}
-
-fn key_place(keys: &[Key<'_>], owner: usize, name: &[u8]) -> Option<usize>
-    ensures { result ≡ position (λ k. is_key_lem owner name.now (k.owner, k.name.now)) keys.now }
+/// Notes where a key stands, unless an earlier place is noted.
+#[tactic(auto, using(crate::proofs::Firsts::firsts))]
+fn note_first<'t>(
+    firsts: &mut IndexMap<Key<'t>, usize>,
+    key: Key<'t>,
+    place: usize,
+) -> Result<(), NoMemory>
+    ensures noted { OnOk result (NotesFirst (get same_key firsts.old) (get same_key firsts.new) key.entry place) }
+    ensures refused { OnErr result (IsUnchanged firsts.old firsts.new) }
 {
-    keys.iter().position(|k| k.is(owner, name))
+    if !firsts.contains_key(&key) {
+        firsts.insert(key, place)?;
+    }
+    Ok(())
 }
 
 /// Names that are declared, in text order, with the numbers of their owners. One name may stand there more than once.
 #[derive(Drop)]
 pub struct Names<'t> {
     keys: Vec<Key<'t>>,
+    /// Where each key stands first.
+    firsts: IndexMap<Key<'t>, usize>,
 }
 
 impl<'t> Model for Names<'t> {
@@ -39,7 +44,12 @@ impl<'t> Model for Names<'t> {
 
     ghost Value = { List (ℕ × List ℕ) };
 
+    ghost use Rattle.indexmap.specs.IndexMap.{get};
+    ghost use Rattle.typed_expressions.specs.Firsts.{same_key, TellsFirsts};
+
     ghost view = { λ n. map (λ k. (k.owner, k.name.now)) n.keys.items };
+
+    ghost invariant = { λ n. TellsFirsts (get same_key n.firsts) n.keys.items };
 }
 
 impl<'t> Names<'t> {
@@ -49,6 +59,7 @@ impl<'t> Names<'t> {
     {
         Names {
             keys: Vec::new(alloc),
+            firsts: IndexMap::new(alloc),
         }
     }
 
@@ -60,18 +71,21 @@ impl<'t> Names<'t> {
     }
 
     /// The place of the first declaration of the name, counted from 0.
-    #[tactic(auto, using(crate::proofs::Positions::positions))]
     pub fn place(&self, owner: usize, name: &[u8]) -> Option<usize>
         ensures { result ≡ place_in self.now owner name.now }
     {
-        key_place(self.keys.as_slice(), owner, name)
+        self.firsts.get(&Key { owner, name }).copied()
     }
 
     /// One more name.
     pub fn push(&mut self, owner: usize, name: &'t [u8]) -> Result<(), NoMemory>
-        ensures { OnOk result (self.new ≡ self.old ++ (owner, name.now) ∷ []) }
+        ensures added { OnOk result (self.new ≡ self.old ++ (owner, name.now) ∷ []) }
+        ensures refused { OnErr result (self.new ≡ self.old) }
     {
-        self.keys.push(Key { owner, name })?;
+        let key = Key { owner, name };
+        self.keys.reserve(1)?;
+        note_first(&mut self.firsts, key, self.keys.len())?;
+        self.keys.push(key)?;
         Ok(())
     }
 }
