@@ -16,7 +16,7 @@ loop-param-preserved c =
     let key : List ℕ → ℕ × List ℕ = λ t. (0, t) in
     let left : drop c.loop-param.param-index c.args.params.now ≡ c.param-item.result ∷ drop (c.loop-param.param-index + 1) c.args.params.now =
     drop_more c.args.params.now c.loop-param.param-index c.param-item.result within ∙ ap (λ p. p ∷ drop (c.loop-param.param-index + 1) c.args.params.now) (sym c.param-item.is) in
-    let before = c.in_ok-push.ensures ∙ ap (λ t. c.loop-param.before ++ key t ∷ []) c.bytes.ensures in
+    let before = c.in_ok-push.ensures.added ∙ ap (λ t. c.loop-param.before ++ key t ∷ []) c.bytes.ensures in
     ap (λ r. earlier r (soonest (params_faults c.args.classes.now c.push.new.self (map param_tree (drop (c.loop-param.param-index + 1) c.args.params.now))))) c.earlier-found.ensures
     ∙ ap (λ b. earlier (earlier c.loop-param.found c.param_fault.result) (soonest (params_faults c.args.classes.now b (map param_tree (drop (c.loop-param.param-index + 1) c.args.params.now))))) before
     ∙ next_fault c.loop-param.found c.param_fault.result (param_faults c.args.classes.now c.loop-param.before (param_tree c.param-item.result))
