@@ -1,4 +1,1 @@
-pub mod Told
-pub mod Positions
-pub mod Firsts
 pub mod Arms

@@ -2,8 +2,8 @@ use Rattle.std.proofs.Common.{◌≡◌, ◌≤◌, ◌<◌, ◌+◌, ℕ, List,
 use Rattle.std.proofs.lemmas.List.{drop_all, drop_more}
 use Rattle.java_tree.specs.declared.members.ParamTree.{ParamTree}
 use Rattle.java_tree.specs.Seen.{param_tree}
-use Rattle.typed_expressions.specs.Faults.{soonest, earlier}
-use Rattle.typed_expressions.proofs.Told.{next_fault, last_fault, none-earlier}
+use Rattle.declared_names.specs.Faults.{soonest, earlier}
+use Rattle.declared_names.proofs.Told.{next_fault, last_fault, none-earlier}
 use Rattle.typed_statements.specs.Heads.{param_faults, params_faults}
 use Rattle.typed_statements.proofs.heads.params_fault.Goals as goal
 
