@@ -1,5 +1,5 @@
 -- What an expression is seen to be: its kind and its value in the unit, or its faults. Every form is one line.
-use Rattle.std.specs.Prelude.{ℕ, Bool, true, false, List, [], Option, None, Some, is_none, Result}
+use Rattle.std.specs.Prelude.{ℕ, Bool, true, false, Option, None, Some, is_none, Result}
 use Rattle.java_tree.specs.declared.names.Ident.{Ident}
 use Rattle.java_tree.specs.Trees.{Expr, num, flag, null, this, outcome, make, named, call, read, call_on, paren, negation, minus, bin, old, quant, quant_in, has, size, Exprs, none, also}
 use Rattle.java_tree.specs.Expressions.{place}
@@ -12,10 +12,6 @@ use Rattle.typed_forms.specs.declared.typed.Place.{Place}
 use Rattle.typed_forms.specs.declared.typed.Called.{Called}
 use Rattle.typed_forms.specs.declared.typed.Arguments.{Arguments}
 use Rattle.declared_names.specs.declared.world.World.{World}
-use Rattle.declared_names.specs.declared.world.Here.{Here}
-use Rattle.declared_names.specs.declared.world.Declared.{Declared}
-use Rattle.declared_names.specs.declared.world.Form.{Form}
-use Rattle.declared_names.specs.declared.world.Form.TheVariants as form
 use Rattle.declared_names.specs.Faults.{fault}
 use Rattle.declared_names.specs.Seen.{Seen, Stands, faulty, is_seen, over, over_two, told, on_two}
 use Rattle.declared_names.specs.Lookups.{Scope, place_in, declared_slot, method_of}

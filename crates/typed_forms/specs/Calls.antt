@@ -1,6 +1,6 @@
 -- Names of variables and fields, reads of fields, calls and `new`. (Java Language Specification, "Field Access
 -- Expressions", "Method Invocation Expressions", "Class Instance Creation Expressions".)
-use Rattle.std.specs.Prelude.{ℕ, min, Bool, true, false, ◌==◌, ◌||◌, not, if◌then◌else◌, List, [], ◌∷◌, ◌++◌, length, Option, None, Some, option_map, slice_get}
+use Rattle.std.specs.Prelude.{ℕ, min, Bool, true, false, ◌==◌, ◌||◌, not, if◌then◌else◌, List, [], ◌∷◌, ◌++◌, length, Option, None, Some, option_map}
 use Rattle.java_tree.specs.declared.names.Ident.{Ident}
 use Rattle.taco_unit.specs.declared.expr.Expr.{Expr}
 use Rattle.taco_unit.specs.declared.expr.Expr.TheVariants as e
