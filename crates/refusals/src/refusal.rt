@@ -1,5 +1,5 @@
+use declared_names::Many;
 use java_lex::Absent;
-use typed_expressions::Many;
 
 /// Why the bytes of a text stand for no unit. Places are in bytes, counted from 0.
 #[derive(Clone, Copy, Debug, PartialEq, Eq)]

@@ -11,9 +11,9 @@ use Rattle.text_reading.specs.Verdicts.{Verdict as TokenVerdict, Text, WrongFrom
 use Rattle.text_reading.proofs.TextLaw.{cut_ended, judged}
 use Rattle.java_reader.specs.Source.{IsText, IsWrongAt, IsDeepAt}
 use Rattle.taco_unit.specs.Parts.{Parts}
-use Rattle.typed_expressions.specs.declared.fault.Fault.{Fault}
-use Rattle.typed_expressions.specs.Faults.{soonest}
-use Rattle.typed_expressions.specs.Seen.{Seen, Stands, faults}
+use Rattle.declared_names.specs.declared.fault.Fault.{Fault}
+use Rattle.declared_names.specs.Faults.{soonest}
+use Rattle.declared_names.specs.Seen.{Seen, Stands, faults}
 use Rattle.typed_core.specs.declared.fault.NameFault.{NameFault}
 use Rattle.typed_core.specs.declared.fault.NameFault.TheVariants as name
 use Rattle.typed_core.specs.Members.{resolved}

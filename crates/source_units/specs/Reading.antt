@@ -7,7 +7,7 @@ use Rattle.java_tree.specs.Trees.{Classes}
 use Rattle.java_tree.specs.Reading.{Parse}
 use Rattle.java_reader.specs.Source.{IsText, IsWrongAt, IsDeepAt}
 use Rattle.taco_unit.specs.Parts.{Parts}
-use Rattle.typed_expressions.specs.Seen.{Stands}
+use Rattle.declared_names.specs.Seen.{Stands}
 use Rattle.typed_core.specs.declared.fault.NameFault.{NameFault}
 use Rattle.typed_core.specs.declared.fault.NameFault.TheVariants as name
 use Rattle.typed_core.specs.Members.{resolved}

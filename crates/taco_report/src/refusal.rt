@@ -4,11 +4,11 @@ ghost use Rattle.taco_report.specs.RefusalLines.{absent_text, many_text, placed,
 
 use crate::status::Status;
 use crate::writing::{add, add_number};
+use declared_names::Many;
 use java_lex::Absent;
 use no_memory::NoMemory;
 use refusals::Refusal;
 use std::alloc::Global;
-use typed_expressions::Many;
 
 /// The word of what the profile has not.
 fn absent_word(part: Absent) -> &'static [u8]

@@ -11,13 +11,13 @@ use Rattle.taco_unit.specs.Parts.{Parts}
 use Rattle.taco_unit.specs.Words.{is_word}
 use Rattle.taco_unit.specs.Kinds.{is_class_kind}
 use Rattle.taco_unit.specs.Well.{around_invariant, are_conditions}
-use Rattle.typed_expressions.specs.declared.fault.Fault.{Fault}
-use Rattle.typed_expressions.specs.declared.fault.Many.TheVariants as many
-use Rattle.typed_expressions.specs.declared.fault.Cause.TheVariants.{Unknown, Twice, TooMany}
-use Rattle.typed_expressions.specs.declared.world.World.{World}
-use Rattle.typed_expressions.specs.Faults.{check}
-use Rattle.typed_expressions.specs.Seen.{Seen, Stands, Faulty, over, over_two, beside}
-use Rattle.typed_expressions.specs.Lookups.{place_in}
+use Rattle.declared_names.specs.declared.fault.Fault.{Fault}
+use Rattle.declared_names.specs.declared.fault.Many.TheVariants as many
+use Rattle.declared_names.specs.declared.fault.Cause.TheVariants.{Unknown, Twice, TooMany}
+use Rattle.declared_names.specs.declared.world.World.{World}
+use Rattle.declared_names.specs.Faults.{check}
+use Rattle.declared_names.specs.Seen.{Seen, Stands, Faulty, over, over_two, beside}
+use Rattle.declared_names.specs.Lookups.{place_in}
 use Rattle.typed_statements.specs.Modifiers.{modifier_faults}
 use Rattle.typed_statements.specs.Heads.{word_faults, next, class_names, is_default, with_parts, with_classes}
 use Rattle.typed_statements.proofs.Stand.{OnStands, on_beside, weaker, nothing_left, nothing_right, passes}

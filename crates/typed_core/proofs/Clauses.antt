@@ -7,18 +7,19 @@ use Rattle.java_tree.specs.Trees.{Expr as Tree, Clause as ClauseTree, needs, giv
 use Rattle.taco_unit.specs.declared.unit.Clause.{Clause}
 use Rattle.taco_unit.specs.Kinds.{Around, is_condition}
 use Rattle.taco_unit.specs.Well.{are_conditions}
-use Rattle.typed_expressions.specs.declared.fault.Many.TheVariants as many
-use Rattle.typed_expressions.specs.declared.fault.Cause.TheVariants.{TooMany}
-use Rattle.typed_expressions.specs.declared.sort.Sort.{Sort}
-use Rattle.typed_expressions.specs.declared.sort.Sort.TheVariants.{Flag}
-use Rattle.typed_expressions.specs.declared.typed.Typed.{Typed}
-use Rattle.typed_expressions.specs.declared.world.World.{World}
-use Rattle.typed_expressions.specs.declared.world.Here.{Here}
-use Rattle.typed_expressions.specs.declared.world.Form.{Form}
-use Rattle.typed_expressions.specs.declared.world.Form.TheVariants as form
-use Rattle.typed_expressions.specs.Seen.{Seen, Stands, over, over_two, unless, beside}
-use Rattle.typed_expressions.specs.Operators.{wants}
-use Rattle.typed_expressions.specs.Expressions.{in_clause, seen}
+use Rattle.declared_names.specs.declared.fault.Many.TheVariants as many
+use Rattle.declared_names.specs.declared.fault.Cause.TheVariants.{TooMany}
+use Rattle.declared_names.specs.declared.sort.Sort.{Sort}
+use Rattle.declared_names.specs.declared.sort.Sort.TheVariants.{Flag}
+use Rattle.typed_forms.specs.declared.typed.Typed.{Typed}
+use Rattle.declared_names.specs.declared.world.World.{World}
+use Rattle.declared_names.specs.declared.world.Here.{Here}
+use Rattle.declared_names.specs.declared.world.Form.{Form}
+use Rattle.declared_names.specs.declared.world.Form.TheVariants as form
+use Rattle.declared_names.specs.Seen.{Seen, Stands, over, over_two, unless, beside}
+use Rattle.typed_forms.specs.Operators.{wants}
+use Rattle.declared_names.specs.Lookups.{in_clause}
+use Rattle.typed_expressions.specs.Expressions.{seen}
 use Rattle.typed_statements.specs.Heads.{next}
 use Rattle.typed_statements.specs.Statements.{State}
 use Rattle.typed_statements.proofs.Stand.{OnStands, on_over, on_unless, on_beside, on_then, weaker, passes}

@@ -9,7 +9,7 @@ use Rattle.std.proofs.lemmas.List.Sums.{fails_before_first}
 use Rattle.std.proofs.lemmas.Slice.Eq.{bytes_eq-Decides}
 use Rattle.std.proofs.lemmas.List.{length-append}
 use Rattle.std.proofs.lemmas.List.Quantifiers.{position-Some}
-use Rattle.typed_expressions.specs.Lookups.{is_key, place_in}
+use Rattle.declared_names.specs.Lookups.{is_key, place_in}
 use Rattle.typed_statements.proofs.Agrees.{kept, last_one}
 use Rattle.typed_statements.proofs.CallKinds.{both_of, left_of, right_of}
 use Rattle.typed_statements.proofs.Fitting.{Before}

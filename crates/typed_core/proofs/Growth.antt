@@ -3,9 +3,9 @@ use Rattle.std.proofs.Common.{◌≡◌, ◌≤◌, ◌<◌, ◌+◌, ℕ, Bool,
 use Rattle.std.specs.Prelude.{map}
 use Rattle.std.proofs.lemmas.List.{map-append}
 use Rattle.java_tree.specs.Trees.{Part, invariant, field, method, Classes}
-use Rattle.typed_expressions.specs.declared.world.World.{World}
-use Rattle.typed_expressions.specs.declared.world.FieldKnown.{FieldKnown}
-use Rattle.typed_expressions.specs.declared.world.MethodKnown.{MethodKnown}
+use Rattle.declared_names.specs.declared.world.World.{World}
+use Rattle.declared_names.specs.declared.world.FieldKnown.{FieldKnown}
+use Rattle.declared_names.specs.declared.world.MethodKnown.{MethodKnown}
 use Rattle.typed_statements.specs.Heads.{next, field_known, method_known, with_field, with_method, with_part, with_parts, with_classes, is_default}
 use Rattle.typed_statements.proofs.Fitting.{Before, before_refl, before_trans, before_one}
 

@@ -18,22 +18,22 @@ use Rattle.taco_unit.specs.Parts.{Parts}
 use Rattle.taco_unit.specs.Words.{is_word}
 use Rattle.taco_unit.specs.Kinds.{Around, is_kind_of, is_condition}
 use Rattle.taco_unit.specs.Well.{IsWellMethod, around_invariant, around_method, receiver_of, param_kinds}
-use Rattle.typed_expressions.specs.declared.fault.Fault.{Fault}
-use Rattle.typed_expressions.specs.declared.fault.Many.TheVariants as many
-use Rattle.typed_expressions.specs.declared.fault.Cause.TheVariants.{Unknown, Twice, TooMany}
-use Rattle.typed_expressions.specs.declared.sort.Sort.{Sort}
-use Rattle.typed_expressions.specs.declared.world.World.{World}
-use Rattle.typed_expressions.specs.declared.world.Here.{Here}
-use Rattle.typed_expressions.specs.declared.world.ParamKnown.{ParamKnown}
-use Rattle.typed_expressions.specs.declared.world.ResultKnown.{ResultKnown}
-use Rattle.typed_expressions.specs.declared.world.MethodKnown.{MethodKnown}
-use Rattle.typed_expressions.specs.declared.world.Form.{Form}
-use Rattle.typed_expressions.specs.declared.world.Form.TheVariants as form
-use Rattle.typed_expressions.specs.Faults.{check}
-use Rattle.typed_expressions.specs.Seen.{Seen, Stands, over, over_two, beside}
-use Rattle.typed_expressions.specs.Lookups.{place_in}
-use Rattle.typed_expressions.specs.Calls.{byte}
-use Rattle.typed_expressions.specs.Expressions.{in_clause, seen}
+use Rattle.declared_names.specs.declared.fault.Fault.{Fault}
+use Rattle.declared_names.specs.declared.fault.Many.TheVariants as many
+use Rattle.declared_names.specs.declared.fault.Cause.TheVariants.{Unknown, Twice, TooMany}
+use Rattle.declared_names.specs.declared.sort.Sort.{Sort}
+use Rattle.declared_names.specs.declared.world.World.{World}
+use Rattle.declared_names.specs.declared.world.Here.{Here}
+use Rattle.declared_names.specs.declared.world.ParamKnown.{ParamKnown}
+use Rattle.declared_names.specs.declared.world.ResultKnown.{ResultKnown}
+use Rattle.declared_names.specs.declared.world.MethodKnown.{MethodKnown}
+use Rattle.declared_names.specs.declared.world.Form.{Form}
+use Rattle.declared_names.specs.declared.world.Form.TheVariants as form
+use Rattle.declared_names.specs.Faults.{check}
+use Rattle.declared_names.specs.Seen.{Seen, Stands, over, over_two, beside}
+use Rattle.declared_names.specs.Lookups.{place_in, in_clause}
+use Rattle.typed_forms.specs.Calls.{byte}
+use Rattle.typed_expressions.specs.Expressions.{seen}
 use Rattle.typed_statements.specs.Kinds.{kind_of, param_def, result_def}
 use Rattle.typed_statements.specs.Modifiers.{marks_of, is_nullable}
 use Rattle.typed_statements.specs.Heads.{Names, type_sort, is_object_type, word_faults, params_faults, param_known, method_known, here_of, here_in}

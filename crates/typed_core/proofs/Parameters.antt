@@ -9,13 +9,13 @@ use Rattle.taco_unit.specs.declared.unit.ParamDef.{ParamDef}
 use Rattle.taco_unit.specs.Parts.{Parts}
 use Rattle.taco_unit.specs.Words.{is_word}
 use Rattle.taco_unit.specs.Kinds.{is_kind_of}
-use Rattle.typed_expressions.specs.declared.fault.Fault.{Fault}
-use Rattle.typed_expressions.specs.declared.fault.Cause.TheVariants.{Unknown, Twice, TooMany}
-use Rattle.typed_expressions.specs.declared.fault.Many.TheVariants as many
-use Rattle.typed_expressions.specs.declared.world.World.{World}
-use Rattle.typed_expressions.specs.declared.world.ParamKnown.{ParamKnown}
-use Rattle.typed_expressions.specs.Faults.{check}
-use Rattle.typed_expressions.specs.Lookups.{is_key, place_in}
+use Rattle.declared_names.specs.declared.fault.Fault.{Fault}
+use Rattle.declared_names.specs.declared.fault.Cause.TheVariants.{Unknown, Twice, TooMany}
+use Rattle.declared_names.specs.declared.fault.Many.TheVariants as many
+use Rattle.declared_names.specs.declared.world.World.{World}
+use Rattle.declared_names.specs.declared.world.ParamKnown.{ParamKnown}
+use Rattle.declared_names.specs.Faults.{check}
+use Rattle.declared_names.specs.Lookups.{is_key, place_in}
 use Rattle.typed_statements.specs.Kinds.{kind_of, param_def}
 use Rattle.typed_statements.specs.Heads.{Names, typed_faults, word_faults, param_faults, params_faults, param_known, type_sort}
 use Rattle.typed_statements.proofs.Stand.{nothing_left, nothing_right, passes}

@@ -2,15 +2,16 @@
 use Rattle.std.proofs.Common.{◌≡◌, ℕ, Bool, List, [], ◌∷◌, Result, Ok, refl, ap, ◌∙◌}
 use Rattle.java_tree.specs.Trees.{Clause as ClauseTree, needs, gives, Part, Class, Classes}
 use Rattle.taco_unit.specs.declared.unit.Clause.{Clause}
-use Rattle.typed_expressions.specs.declared.fault.Fault.{Fault}
-use Rattle.typed_expressions.specs.declared.typed.Typed.{Typed}
-use Rattle.typed_expressions.specs.declared.world.World.{World}
-use Rattle.typed_expressions.specs.declared.world.Here.{Here}
-use Rattle.typed_expressions.specs.declared.world.Form.TheVariants as form
-use Rattle.typed_expressions.specs.Faults.{soonest}
-use Rattle.typed_expressions.specs.Seen.{Seen, Stands, over, over_two, beside, told, on, on_two, with_fault}
-use Rattle.typed_expressions.specs.Expressions.{in_clause, seen}
-use Rattle.typed_expressions.proofs.Told.{told-over, told-over_two, told-beside, told-stands}
+use Rattle.declared_names.specs.declared.fault.Fault.{Fault}
+use Rattle.typed_forms.specs.declared.typed.Typed.{Typed}
+use Rattle.declared_names.specs.declared.world.World.{World}
+use Rattle.declared_names.specs.declared.world.Here.{Here}
+use Rattle.declared_names.specs.declared.world.Form.TheVariants as form
+use Rattle.declared_names.specs.Faults.{soonest}
+use Rattle.declared_names.specs.Seen.{Seen, Stands, over, over_two, beside, told, on, on_two, with_fault}
+use Rattle.declared_names.specs.Lookups.{in_clause}
+use Rattle.typed_expressions.specs.Expressions.{seen}
+use Rattle.declared_names.proofs.Told.{told-over, told-over_two, told-beside, told-stands}
 use Rattle.typed_core.specs.declared.members.Spec.{Spec}
 use Rattle.typed_core.specs.declared.members.Counts.{Counts}
 use Rattle.typed_core.specs.declared.members.Members.{Members}

@@ -14,15 +14,16 @@ use Rattle.taco_unit.specs.Parts.{Parts}
 use Rattle.taco_unit.specs.Words.{is_word}
 use Rattle.taco_unit.specs.Kinds.{is_condition}
 use Rattle.taco_unit.specs.Well.{IsWellMethod, around_invariant, are_conditions}
-use Rattle.typed_expressions.specs.declared.fault.Many.TheVariants as many
-use Rattle.typed_expressions.specs.declared.fault.Cause.TheVariants.{TooMany}
-use Rattle.typed_expressions.specs.declared.world.World.{World}
-use Rattle.typed_expressions.specs.declared.world.Here.{Here}
-use Rattle.typed_expressions.specs.declared.world.MethodKnown.{MethodKnown}
-use Rattle.typed_expressions.specs.declared.world.Form.TheVariants as form
-use Rattle.typed_expressions.specs.Seen.{Seen, Stands, Faulty, over, over_two, unless, beside}
-use Rattle.typed_expressions.specs.Calls.{byte}
-use Rattle.typed_expressions.specs.Expressions.{in_clause, seen}
+use Rattle.declared_names.specs.declared.fault.Many.TheVariants as many
+use Rattle.declared_names.specs.declared.fault.Cause.TheVariants.{TooMany}
+use Rattle.declared_names.specs.declared.world.World.{World}
+use Rattle.declared_names.specs.declared.world.Here.{Here}
+use Rattle.declared_names.specs.declared.world.MethodKnown.{MethodKnown}
+use Rattle.declared_names.specs.declared.world.Form.TheVariants as form
+use Rattle.declared_names.specs.Seen.{Seen, Stands, Faulty, over, over_two, unless, beside}
+use Rattle.typed_forms.specs.Calls.{byte}
+use Rattle.declared_names.specs.Lookups.{in_clause}
+use Rattle.typed_expressions.specs.Expressions.{seen}
 use Rattle.typed_statements.specs.Kinds.{param_def, result_def}
 use Rattle.typed_statements.specs.Heads.{next, field_known, method_known, here_of, here_in, with_part, with_parts}
 use Rattle.typed_statements.specs.Statements.{seen_body}

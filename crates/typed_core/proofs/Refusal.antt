@@ -7,11 +7,11 @@ use Rattle.std.proofs.lemmas.Bool.Decides.{Decides-ltb}
 use Rattle.java_tree.specs.Trees.{Classes}
 use Rattle.taco_unit.specs.Parts.{Parts}
 use Rattle.taco_unit.specs.Well.{IsWell}
-use Rattle.typed_expressions.specs.declared.fault.Fault.{Fault}
-use Rattle.typed_expressions.specs.declared.fault.Cause.{Cause}
-use Rattle.typed_expressions.specs.declared.fault.Cause.TheVariants as cause
-use Rattle.typed_expressions.specs.Faults.{key, sooner, least, soonest}
-use Rattle.typed_expressions.specs.Seen.{Seen, Stands, Faulty, faults, over, told}
+use Rattle.declared_names.specs.declared.fault.Fault.{Fault}
+use Rattle.declared_names.specs.declared.fault.Cause.{Cause}
+use Rattle.declared_names.specs.declared.fault.Cause.TheVariants as cause
+use Rattle.declared_names.specs.Faults.{key, sooner, least, soonest}
+use Rattle.declared_names.specs.Seen.{Seen, Stands, Faulty, faults, over, told}
 use Rattle.typed_statements.proofs.Stand.{OnStands, stands}
 use Rattle.typed_core.specs.declared.members.Built.{Built}
 use Rattle.typed_core.specs.Members.{unit_of, seen_text, resolved}

@@ -16,19 +16,19 @@ use Rattle.taco_unit.specs.Parts.{Parts}
 use Rattle.taco_unit.specs.Words.{is_word}
 use Rattle.taco_unit.specs.Kinds.{is_kind_of, is_class_kind, is_condition}
 use Rattle.taco_unit.specs.Well.{IsWellMethod, around_invariant, are_conditions}
-use Rattle.typed_expressions.specs.declared.fault.Fault.{Fault}
-use Rattle.typed_expressions.specs.declared.fault.Many.TheVariants as many
-use Rattle.typed_expressions.specs.declared.fault.Cause.TheVariants.{Unknown, Twice, TooMany}
-use Rattle.typed_expressions.specs.declared.world.World.{World}
-use Rattle.typed_expressions.specs.declared.world.FieldKnown.{FieldKnown}
-use Rattle.typed_expressions.specs.declared.world.ParamKnown.{ParamKnown}
-use Rattle.typed_expressions.specs.declared.world.ResultKnown.{ResultKnown}
-use Rattle.typed_expressions.specs.declared.world.MethodKnown.{MethodKnown}
-use Rattle.typed_expressions.specs.Faults.{check}
-use Rattle.typed_expressions.specs.Seen.{Seen, Stands, Faulty, over, over_two, unless, beside}
-use Rattle.typed_expressions.specs.Lookups.{place_in}
-use Rattle.typed_expressions.specs.Calls.{byte}
-use Rattle.typed_expressions.specs.Clauses.{class_sort}
+use Rattle.declared_names.specs.declared.fault.Fault.{Fault}
+use Rattle.declared_names.specs.declared.fault.Many.TheVariants as many
+use Rattle.declared_names.specs.declared.fault.Cause.TheVariants.{Unknown, Twice, TooMany}
+use Rattle.declared_names.specs.declared.world.World.{World}
+use Rattle.declared_names.specs.declared.world.FieldKnown.{FieldKnown}
+use Rattle.declared_names.specs.declared.world.ParamKnown.{ParamKnown}
+use Rattle.declared_names.specs.declared.world.ResultKnown.{ResultKnown}
+use Rattle.declared_names.specs.declared.world.MethodKnown.{MethodKnown}
+use Rattle.declared_names.specs.Faults.{check}
+use Rattle.declared_names.specs.Seen.{Seen, Stands, Faulty, over, over_two, unless, beside}
+use Rattle.declared_names.specs.Lookups.{place_in}
+use Rattle.typed_forms.specs.Calls.{byte}
+use Rattle.typed_forms.specs.Clauses.{class_sort}
 use Rattle.typed_statements.specs.Kinds.{kind_of, param_def, result_def}
 use Rattle.typed_statements.specs.Heads.{Names, next, type_sort, is_object_type, typed_faults, word_faults, field_known, method_known, here_of, with_field, with_method}
 use Rattle.typed_statements.specs.Statements.{seen_body}

@@ -16,13 +16,13 @@ use Rattle.taco_unit.specs.declared.unit.MethodDef.{MethodDef}
 use Rattle.taco_unit.specs.Parts.{Parts}
 use Rattle.taco_unit.specs.Words.{is_word}
 use Rattle.taco_unit.specs.Well.{IsWell, IsWellClass, IsWellField, IsWellMethod, fields_of, methods_of}
-use Rattle.typed_expressions.specs.declared.world.World.{World}
-use Rattle.typed_expressions.specs.declared.world.Slot.{Slot}
-use Rattle.typed_expressions.specs.declared.world.FieldKnown.{FieldKnown}
-use Rattle.typed_expressions.specs.declared.world.MethodKnown.{MethodKnown}
-use Rattle.typed_expressions.specs.Seen.{Stands}
-use Rattle.typed_expressions.specs.Lookups.{is_key, place_in, field_slot, slot}
-use Rattle.typed_expressions.specs.Calls.{byte, method_at, method_of}
+use Rattle.declared_names.specs.declared.world.World.{World}
+use Rattle.declared_names.specs.declared.world.Slot.{Slot}
+use Rattle.declared_names.specs.declared.world.FieldKnown.{FieldKnown}
+use Rattle.declared_names.specs.declared.world.MethodKnown.{MethodKnown}
+use Rattle.declared_names.specs.Seen.{Stands}
+use Rattle.declared_names.specs.Lookups.{is_key, place_in, field_slot, slot, method_at, method_of}
+use Rattle.typed_forms.specs.Calls.{byte}
 use Rattle.typed_statements.specs.Kinds.{kind_of}
 use Rattle.typed_statements.specs.Heads.{class_names, bare_world, with_classes, world_of}
 use Rattle.typed_statements.proofs.Stand.{OnStands, weaker}

@@ -15,25 +15,25 @@ use Rattle.taco_unit.specs.declared.unit.FieldDef.{FieldDef}
 use Rattle.taco_unit.specs.declared.unit.ParamDef.{ParamDef}
 use Rattle.taco_unit.specs.declared.unit.MethodDef.{MethodDef}
 use Rattle.taco_unit.specs.Parts.{Parts}
-use Rattle.typed_expressions.specs.declared.fault.Fault.{Fault}
-use Rattle.typed_expressions.specs.declared.fault.Many.TheVariants as many
-use Rattle.typed_expressions.specs.declared.fault.Cause.TheVariants.{Twice, TooMany}
-use Rattle.typed_expressions.specs.declared.sort.Sort.{Sort}
-use Rattle.typed_expressions.specs.declared.sort.Sort.TheVariants.{Loose, Null, Int, Flag, Object}
-use Rattle.typed_expressions.specs.declared.typed.Typed.{Typed}
-use Rattle.typed_expressions.specs.declared.world.World.{World}
-use Rattle.typed_expressions.specs.declared.world.Here.{Here}
-use Rattle.typed_expressions.specs.declared.world.FieldKnown.{FieldKnown}
-use Rattle.typed_expressions.specs.declared.world.ParamKnown.{ParamKnown}
-use Rattle.typed_expressions.specs.declared.world.ResultKnown.{ResultKnown}
-use Rattle.typed_expressions.specs.declared.world.MethodKnown.{MethodKnown}
-use Rattle.typed_expressions.specs.declared.world.Form.TheVariants as form
-use Rattle.typed_expressions.specs.Faults.{check}
-use Rattle.typed_expressions.specs.Seen.{Seen, Stands, over, over_two, unless, beside}
-use Rattle.typed_expressions.specs.Lookups.{place_in}
-use Rattle.typed_expressions.specs.Operators.{wants}
-use Rattle.typed_expressions.specs.Calls.{byte}
-use Rattle.typed_expressions.specs.Expressions.{in_clause, seen}
+use Rattle.declared_names.specs.declared.fault.Fault.{Fault}
+use Rattle.declared_names.specs.declared.fault.Many.TheVariants as many
+use Rattle.declared_names.specs.declared.fault.Cause.TheVariants.{Twice, TooMany}
+use Rattle.declared_names.specs.declared.sort.Sort.{Sort}
+use Rattle.declared_names.specs.declared.sort.Sort.TheVariants.{Loose, Null, Int, Flag, Object}
+use Rattle.typed_forms.specs.declared.typed.Typed.{Typed}
+use Rattle.declared_names.specs.declared.world.World.{World}
+use Rattle.declared_names.specs.declared.world.Here.{Here}
+use Rattle.declared_names.specs.declared.world.FieldKnown.{FieldKnown}
+use Rattle.declared_names.specs.declared.world.ParamKnown.{ParamKnown}
+use Rattle.declared_names.specs.declared.world.ResultKnown.{ResultKnown}
+use Rattle.declared_names.specs.declared.world.MethodKnown.{MethodKnown}
+use Rattle.declared_names.specs.declared.world.Form.TheVariants as form
+use Rattle.declared_names.specs.Faults.{check}
+use Rattle.declared_names.specs.Seen.{Seen, Stands, over, over_two, unless, beside}
+use Rattle.declared_names.specs.Lookups.{place_in, in_clause}
+use Rattle.typed_forms.specs.Operators.{wants}
+use Rattle.typed_forms.specs.Calls.{byte}
+use Rattle.typed_expressions.specs.Expressions.{seen}
 use Rattle.typed_core.specs.declared.members.Made.{Made}
 use Rattle.typed_core.specs.declared.members.Made.TheVariants as made
 use Rattle.typed_core.specs.declared.members.Counts.{Counts}

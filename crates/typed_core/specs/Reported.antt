@@ -1,13 +1,14 @@
 -- The same meanings, by what is reported of the parts.
 use Rattle.std.specs.Prelude.{ℕ, Bool, List, [], ◌∷◌, ◌++◌, Result}
 use Rattle.java_tree.specs.Trees.{Clause, needs, gives, Part, Class, Classes}
-use Rattle.typed_expressions.specs.declared.fault.Fault.{Fault}
-use Rattle.typed_expressions.specs.declared.world.World.{World}
-use Rattle.typed_expressions.specs.declared.world.Here.{Here}
-use Rattle.typed_expressions.specs.declared.world.Form.TheVariants as form
-use Rattle.typed_expressions.specs.Faults.{soonest}
-use Rattle.typed_expressions.specs.Seen.{Stands, told, on, on_two, with_fault}
-use Rattle.typed_expressions.specs.Expressions.{in_clause, seen}
+use Rattle.declared_names.specs.declared.fault.Fault.{Fault}
+use Rattle.declared_names.specs.declared.world.World.{World}
+use Rattle.declared_names.specs.declared.world.Here.{Here}
+use Rattle.declared_names.specs.declared.world.Form.TheVariants as form
+use Rattle.declared_names.specs.Faults.{soonest}
+use Rattle.declared_names.specs.Seen.{Stands, told, on, on_two, with_fault}
+use Rattle.declared_names.specs.Lookups.{in_clause}
+use Rattle.typed_expressions.specs.Expressions.{seen}
 use Rattle.typed_statements.specs.Heads.{next}
 use Rattle.typed_core.specs.declared.members.Spec.{Spec}
 use Rattle.typed_core.specs.declared.members.Counts.{Counts}

@@ -1,12 +1,12 @@
 -- What `resolve` answers.
 use Rattle.std.specs.Prelude.{◌≡◌, ◌≤◌, ℕ, List, Option, Some, Result, Ok, Err, All, slice_get}
 use Rattle.taco_unit.specs.Parts.{Parts}
-use Rattle.typed_expressions.specs.declared.fault.Many.{Many}
-use Rattle.typed_expressions.specs.declared.fault.Fault.{Fault}
-use Rattle.typed_expressions.specs.declared.fault.Cause.{Cause}
-use Rattle.typed_expressions.specs.declared.fault.Cause.TheVariants as cause
-use Rattle.typed_expressions.specs.Faults.{key, soonest}
-use Rattle.typed_expressions.specs.Seen.{Seen, Stands, faults}
+use Rattle.declared_names.specs.declared.fault.Many.{Many}
+use Rattle.declared_names.specs.declared.fault.Fault.{Fault}
+use Rattle.declared_names.specs.declared.fault.Cause.{Cause}
+use Rattle.declared_names.specs.declared.fault.Cause.TheVariants as cause
+use Rattle.declared_names.specs.Faults.{key, soonest}
+use Rattle.declared_names.specs.Seen.{Seen, Stands, faults}
 use Rattle.typed_core.specs.declared.fault.NameFault.{NameFault}
 use Rattle.typed_core.specs.declared.fault.NameFault.TheVariants.{Unknown, Twice, Kinds, TooMany, NoMemory}
 

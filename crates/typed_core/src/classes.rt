@@ -1,16 +1,16 @@
 ghost use Rattle.std.specs.Prelude.{◌≡◌, ◌∷◌, ◌++◌, [], ℕ, map, length, IfOk};
 ghost use Rattle.java_tree.specs.Seen.{class_tree, classes_tree};
-ghost use Rattle.typed_expressions.specs.Faults.{soonest};
-ghost use Rattle.typed_expressions.specs.Seen.{told, on, on_two, Stands};
+ghost use Rattle.declared_names.specs.Faults.{soonest};
+ghost use Rattle.declared_names.specs.Seen.{told, on, on_two, Stands};
 ghost use Rattle.typed_core.specs.Members.{class_faults, no_counts, nothing_built, seen_class, seen_classes, seen_text, with_class as with_class_lem, counted_parts, fresh_class};
 
 use crate::members::{Built, ClassPart, Counts, Members, all_members, is_first};
+use declared_names::{Cause, Fault, Many, World, beside, earlier, pair, unless};
 use java_tree::{ClassTree, Tree};
 use no_memory::NoMemory;
 use sqlite_items::Items;
 use std::alloc::Global;
 use taco_unit::Name;
-use typed_expressions::{Cause, Fault, Many, World, beside, earlier, pair, unless};
 use typed_statements::{is_default, modifier_fault, next, word_fault, world};
 
 /// The fault of the head of a class.

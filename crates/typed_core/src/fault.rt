@@ -1,9 +1,9 @@
 ghost use Rattle.std.specs.Prelude.{◌≡◌};
 ghost use Rattle.typed_core.specs.Resolved.{name_fault as name_fault_lem};
 
+use declared_names::{Cause, Fault, Many};
 use no_memory::NoMemory;
 use thiserror::Error;
-use typed_expressions::{Cause, Fault, Many};
 
 /// Why a tree stands for no unit. A place is counted in bytes, from 0.
 #[derive(Clone, Copy, Debug, PartialEq, Eq, Error)]

@@ -11,6 +11,6 @@ mod resolution;
 mod tests;
 mod unit;
 
+pub use declared_names::Many;
 pub use fault::NameFault;
 pub use resolution::resolve;
-pub use typed_expressions::Many;

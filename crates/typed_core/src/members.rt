@@ -1,25 +1,28 @@
 ghost use Rattle.std.specs.Prelude.{◌≡◌, ◌∷◌, ◌++◌, [], map, option_map, None, Some, IfOk};
 ghost use Rattle.java_tree.specs.Seen.{class_tree, clause_tree, classes_tree, jml_tree, method_tree, part_tree};
 ghost use Rattle.taco_unit.specs.Well.{fields_of, methods_of};
-ghost use Rattle.typed_expressions.specs.Faults.{soonest};
-ghost use Rattle.typed_expressions.specs.Seen.{told, on, on_two, Stands, with_fault};
-ghost use Rattle.typed_expressions.specs.declared.world.Form.TheVariants as form;
-ghost use Rattle.typed_expressions.specs.Expressions.{in_clause, seen};
+ghost use Rattle.declared_names.specs.Faults.{soonest};
+ghost use Rattle.declared_names.specs.Seen.{told, on, on_two, Stands, with_fault};
+ghost use Rattle.declared_names.specs.declared.world.Form.TheVariants as form;
+ghost use Rattle.declared_names.specs.Lookups.{in_clause};
+ghost use Rattle.typed_expressions.specs.Expressions.{seen};
 ghost use Rattle.typed_core.specs.Members.{class_faults, clause_of, counted as counted_lem, counted_parts, field_def as field_def_lem, field_faults, fresh_class, is_first as is_first_lem, many_clauses, method_def as method_def_lem, method_faults, no_clauses, no_members, one_more as one_more_lem, result_faults, seen_class, seen_clauses, seen_method, seen_part, seen_parts, with_give, with_made as with_made_lem, with_need};
 ghost use Rattle.typed_statements.specs.Kinds.{kind_of as kind_of_lem, param_def as param_def_lem, result_def as result_def_lem};
 ghost use Rattle.typed_statements.specs.Heads.{method_known as method_known_lem, here_of as here_of_lem};
 ghost use Rattle.typed_statements.specs.Statements.{seen_body};
 ghost use Rattle.java_tree.specs.Trees.{field as part_field};
 
+use declared_names::{
+    Cause, Fault, FieldKnown, Form, Here, Many, MethodKnown, ParamKnown, ResultKnown, Sort, World,
+    beside, earlier, pair, unless,
+};
 use java_tree::{ClassTree, Ident, JmlTree, Member, MethodTree, Modifier, SpecTree, TypeTree};
 use no_memory::NoMemory;
 use sqlite_items::Items;
 use std::alloc::Global;
 use taco_unit::{Clause, FieldDef, Kind, MethodDef, Name, ParamDef, Stmt};
-use typed_expressions::{
-    Cause, Fault, FieldKnown, Form, Here, Many, MethodKnown, ParamKnown, ResultKnown, Sort, Typed,
-    World, beside, byte, earlier, jml, pair, unless, wants,
-};
+use typed_expressions::jml;
+use typed_forms::{Typed, byte, wants};
 use typed_statements::{
     body, field_known, first_places, here_in, here_of, is_object_type, method_known,
     modifier_fault, next, nullness_fault, params_fault, typed_fault, word_fault,

@@ -3,20 +3,20 @@ use Rattle.std.proofs.Common.{◌≡◌, ℕ, Option, None, Some, Result, Ok, re
 use Rattle.java_tree.specs.Trees.{Expr, Exprs, none, also, call, call_on}
 use Rattle.java_tree.specs.declared.expressions.JavaNode.TheViews.{the_lemmas as java_lemmas}
 use Rattle.java_tree.specs.declared.clauses.JmlNode.TheViews.{the_lemmas as jml_lemmas}
-use Rattle.typed_expressions.specs.declared.fault.Fault.{Fault}
+use Rattle.declared_names.specs.declared.fault.Fault.{Fault}
 use Rattle.java_tree.specs.declared.names.Ident.{Ident}
-use Rattle.typed_expressions.specs.declared.world.World.{World}
-use Rattle.typed_expressions.specs.declared.world.Here.{Here}
-use Rattle.typed_expressions.specs.declared.world.Declared.{Declared}
-use Rattle.typed_expressions.specs.declared.typed.Called.{Called}
-use Rattle.typed_expressions.specs.declared.typed.Typed.{Typed}
-use Rattle.typed_expressions.specs.declared.typed.Arguments.{Arguments}
-use Rattle.typed_expressions.specs.Seen.{Seen, Stands, over_two, told, on, on_two}
-use Rattle.typed_expressions.specs.Lookups.{Scope}
-use Rattle.typed_expressions.specs.Operators.{minus_of, minus_told, minus_value}
-use Rattle.typed_expressions.specs.Calls.{no_arguments, with_argument, class_of, class_call, method_of, object_call, own_call, call_value}
-use Rattle.typed_expressions.specs.Expressions.{seen, seen_from, seen_call, in_body, valued, class_name_of, bare_name, dotted, dotted_told}
-use Rattle.typed_expressions.proofs.Told.{wholes, told-stands, told-over, told-over_two}
+use Rattle.declared_names.specs.declared.world.World.{World}
+use Rattle.declared_names.specs.declared.world.Here.{Here}
+use Rattle.declared_names.specs.declared.world.Declared.{Declared}
+use Rattle.typed_forms.specs.declared.typed.Called.{Called}
+use Rattle.typed_forms.specs.declared.typed.Typed.{Typed}
+use Rattle.typed_forms.specs.declared.typed.Arguments.{Arguments}
+use Rattle.declared_names.specs.Seen.{Seen, Stands, over_two, told, on, on_two}
+use Rattle.declared_names.specs.Lookups.{Scope, method_of, in_body}
+use Rattle.typed_forms.specs.Operators.{minus_of, minus_told, minus_value}
+use Rattle.typed_forms.specs.Calls.{no_arguments, with_argument, class_of, class_call, object_call, own_call, call_value}
+use Rattle.typed_expressions.specs.Expressions.{seen, seen_from, seen_call, valued, class_name_of, bare_name, dotted, dotted_told}
+use Rattle.declared_names.proofs.Told.{wholes, told-stands, told-over, told-over_two}
 
 pub told-minus : (at : ℕ) (n : Option ℕ) (a : Seen Typed) → told (minus_of at n a) ≡ minus_told at n (told a)
 told-minus at None a = told-over a (minus_value at)

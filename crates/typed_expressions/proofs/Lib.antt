@@ -1,3 +1,1 @@
-pub mod Told
-pub mod Positions
 pub mod Arms

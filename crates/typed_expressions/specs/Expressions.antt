@@ -1,35 +1,23 @@
 -- What an expression is seen to be: its kind and its value in the unit, or its faults. Every form is one line.
-use Rattle.std.specs.Prelude.{ℕ, Bool, true, false, List, [], Option, None, Some, is_none, Result}
+use Rattle.std.specs.Prelude.{ℕ, Bool, true, false, Option, None, Some, is_none, Result}
 use Rattle.java_tree.specs.declared.names.Ident.{Ident}
 use Rattle.java_tree.specs.Trees.{Expr, num, flag, null, this, outcome, make, named, call, read, call_on, paren, negation, minus, bin, old, quant, quant_in, has, size, Exprs, none, also}
 use Rattle.java_tree.specs.Expressions.{place}
 use Rattle.taco_unit.specs.declared.expr.Expr.TheVariants as e
-use Rattle.typed_expressions.specs.declared.fault.Fault.{Fault}
-use Rattle.typed_expressions.specs.declared.fault.Cause.TheVariants.{Kinds}
-use Rattle.typed_expressions.specs.declared.sort.Sort.TheVariants.{Null, Int, Flag}
-use Rattle.typed_expressions.specs.declared.typed.Typed.{Typed}
-use Rattle.typed_expressions.specs.declared.typed.Place.{Place}
-use Rattle.typed_expressions.specs.declared.typed.Called.{Called}
-use Rattle.typed_expressions.specs.declared.typed.Arguments.{Arguments}
-use Rattle.typed_expressions.specs.declared.world.World.{World}
-use Rattle.typed_expressions.specs.declared.world.Here.{Here}
-use Rattle.typed_expressions.specs.declared.world.Declared.{Declared}
-use Rattle.typed_expressions.specs.declared.world.Form.{Form}
-use Rattle.typed_expressions.specs.declared.world.Form.TheVariants as form
-use Rattle.typed_expressions.specs.Faults.{fault}
-use Rattle.typed_expressions.specs.Seen.{Seen, Stands, Faulty, faulty, over, over_two, told, on_two}
-use Rattle.typed_expressions.specs.Lookups.{Scope, place_in, declared_slot}
-use Rattle.typed_expressions.specs.Operators.{typed, operated, negated, literal, minus_of}
-use Rattle.typed_expressions.specs.Calls.{no_arguments, with_argument, named_place, read_place, place_value, named_value, class_of, made, method_of, own_call, class_call, object_call, in_code, call_value}
-use Rattle.typed_expressions.specs.Clauses.{is_clause, is_exit, past, old_of, this_of, result_of, with_variable, quantified, has_of, size_of}
-
--- in code, with these locals in scope
-abbrev pub in_body : World → Here → List Declared → Scope
-in_body w h held = record { world = w; here = h; form = form.Code; held = held; bound = [] }
-
--- in a clause of this form, inside quantifiers with these variables
-abbrev pub in_clause : World → Here → Form → List Declared → Scope
-in_clause w h form bound = record { world = w; here = h; form = form; held = []; bound = bound }
+use Rattle.declared_names.specs.declared.fault.Fault.{Fault}
+use Rattle.declared_names.specs.declared.fault.Cause.TheVariants.{Kinds}
+use Rattle.declared_names.specs.declared.sort.Sort.TheVariants.{Null, Int, Flag}
+use Rattle.typed_forms.specs.declared.typed.Typed.{Typed}
+use Rattle.typed_forms.specs.declared.typed.Place.{Place}
+use Rattle.typed_forms.specs.declared.typed.Called.{Called}
+use Rattle.typed_forms.specs.declared.typed.Arguments.{Arguments}
+use Rattle.declared_names.specs.declared.world.World.{World}
+use Rattle.declared_names.specs.Faults.{fault}
+use Rattle.declared_names.specs.Seen.{Seen, Stands, faulty, is_seen, over, over_two, told, on_two}
+use Rattle.declared_names.specs.Lookups.{Scope, place_in, declared_slot, method_of}
+use Rattle.typed_forms.specs.Operators.{typed, operated, negated, literal, minus_of}
+use Rattle.typed_forms.specs.Calls.{no_arguments, with_argument, named_place, read_place, place_value, named_value, class_of, made, own_call, class_call, object_call, in_code, call_value}
+use Rattle.typed_forms.specs.Clauses.{is_clause, is_exit, past, old_of, this_of, result_of, with_variable, quantified, has_of, size_of}
 
 -- a minus sign directly before a literal
 abbrev pub literal_of : Expr → Option ℕ
@@ -40,10 +28,6 @@ literal_of e = None
 abbrev pub bare_name : Expr → Option Ident
 bare_name (named at i) = Some i
 bare_name e = None
-
-abbrev pub is_seen : {A : Type 0} → Seen A → Bool
-is_seen (Stands x) = true
-is_seen (Faulty f fs) = false
 
 abbrev pub if_no_value : Bool → Bool → Ident → Option Ident
 if_no_value true false i = Some i

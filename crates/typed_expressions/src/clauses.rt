@@ -1,23 +1,20 @@
 ghost use Rattle.std.specs.Prelude.{◌≡◌, IfOk};
 ghost use Rattle.java_tree.specs.Seen.{jml_tree, reach_root};
-ghost use Rattle.typed_expressions.specs.Seen.{told};
-ghost use Rattle.typed_expressions.specs.Expressions.{in_clause, seen};
+ghost use Rattle.declared_names.specs.Seen.{told};
+ghost use Rattle.declared_names.specs.Lookups.{in_clause};
+ghost use Rattle.typed_expressions.specs.Expressions.{seen};
 
-use crate::fault::Fault;
 use crate::literals::jml_literal;
-use crate::operators::{literal, minus, negated_value, operated_values};
-use crate::places::{named_value_in_clause, place_to_value, read_place};
-use crate::predicates::{
-    has_reach, is_clause, is_exit, old_value, quantified_body, quantified_both, result_value,
-    size_reach, with_variable,
-};
-use crate::sort::Sort;
-use crate::typed::{Typed, make_typed, this_value, within};
-use crate::world::{Declared, Form, Here, World};
+use declared_names::{Declared, Fault, Form, Here, Sort, World};
 use java_tree::{JmlNode, JmlTree, ReachTree};
 use no_memory::NoMemory;
 use std::alloc::Global;
 use taco_unit::Expr;
+use typed_forms::{
+    Typed, has_reach, is_clause, is_exit, literal, make_typed, minus, named_value_in_clause,
+    negated_value, old_value, operated_values, place_to_value, quantified_body, quantified_both,
+    read_place, result_value, size_reach, this_value, with_variable, within,
+};
 
 /// An expression of a clause of this form, inside quantifiers with these variables: its kind and its value, or its
 /// fault.

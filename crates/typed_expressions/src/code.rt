@@ -1,27 +1,25 @@
 ghost use Rattle.std.specs.Prelude.{◌≡◌, option_map, IfOk};
 ghost use Rattle.java_tree.specs.Seen.{java_tree, java_trees};
-ghost use Rattle.typed_expressions.specs.Faults.{fault};
-ghost use Rattle.typed_expressions.specs.declared.fault.Cause.TheVariants.{Kinds};
-ghost use Rattle.typed_expressions.specs.Calls.{no_arguments};
-ghost use Rattle.typed_expressions.specs.Operators.{minus_of, operated, negated};
-ghost use Rattle.typed_expressions.specs.Seen.{told, on, on_two, Stands};
-ghost use Rattle.typed_expressions.specs.Expressions.{bare_name as bare_name_lem, class_name_of, in_body, dotted_told, seen, seen_call, seen_from, seen_target};
+ghost use Rattle.declared_names.specs.Faults.{fault};
+ghost use Rattle.declared_names.specs.declared.fault.Cause.TheVariants.{Kinds};
+ghost use Rattle.typed_forms.specs.Calls.{no_arguments};
+ghost use Rattle.typed_forms.specs.Operators.{minus_of, operated, negated};
+ghost use Rattle.declared_names.specs.Seen.{told, on, on_two, Stands};
+ghost use Rattle.typed_expressions.specs.Expressions.{bare_name as bare_name_lem, class_name_of, dotted_told, seen, seen_call, seen_from, seen_target};
+ghost use Rattle.declared_names.specs.Lookups.{in_body};
 
-use crate::calls::{
-    call_to_value, class_called, class_of, make, object_called, own_called, with_argument,
-};
-use crate::fault::{Cause, Fault};
 use crate::literals::{bare_name, java_literal};
-use crate::operators::{literal, minus, negated_value, operated_values};
-use crate::places::{is_value, named_place, named_value_in_code, place_to_value, read_place};
-use crate::sort::Sort;
-use crate::typed::{Arguments, Called, Place, Typed, make_typed, this_value, within};
-use crate::world::{Declared, Here, World};
+use declared_names::{Cause, Declared, Fault, Here, Sort, World};
 use java_tree::{Ident, JavaNode, JavaTree};
 use no_memory::NoMemory;
 use sqlite_items::Items;
 use std::alloc::Global;
 use taco_unit::Expr;
+use typed_forms::{
+    Arguments, Called, Place, Typed, call_to_value, class_called, class_of, is_value, literal,
+    make, make_typed, minus, named_place, named_value_in_code, negated_value, object_called,
+    operated_values, own_called, place_to_value, read_place, this_value, with_argument, within,
+};
 
 /// The name of a class before a dot, where it means nothing else.
 fn class_name<'t>(

@@ -18,22 +18,22 @@ use Rattle.taco_unit.specs.Kinds.{Around, Of, sort_of, sort_of_kind, is_conditio
 use Rattle.taco_unit.specs.Parts.{Parts}
 use Rattle.taco_unit.specs.Bodies.{takes, is_fitting}
 use Rattle.taco_unit.proofs.KindForms.{sort_num, sort_flag, sort_null, fitting_set, fitting_if, fitting_while}
-use Rattle.typed_expressions.specs.declared.fault.Cause.TheVariants.{Unknown}
-use Rattle.typed_expressions.specs.declared.sort.Sort.{Sort}
-use Rattle.typed_expressions.specs.declared.sort.Sort.TheVariants.{Loose, Null, Int, Flag, Object}
-use Rattle.typed_expressions.specs.declared.typed.Typed.{Typed}
-use Rattle.typed_expressions.specs.declared.typed.Called.{Called}
-use Rattle.typed_expressions.specs.declared.world.World.{World}
-use Rattle.typed_expressions.specs.declared.world.Here.{Here}
-use Rattle.typed_expressions.specs.declared.world.Declared.{Declared}
-use Rattle.typed_expressions.specs.declared.world.Form.TheVariants as form
-use Rattle.typed_expressions.specs.Faults.{check}
-use Rattle.typed_expressions.specs.Seen.{Seen, Stands, over, over_two, unless, beside}
-use Rattle.typed_expressions.specs.Lookups.{place_in}
-use Rattle.typed_expressions.specs.Operators.{wants}
-use Rattle.typed_expressions.specs.Calls.{byte}
-use Rattle.typed_expressions.specs.Clauses.{class_sort}
-use Rattle.typed_expressions.specs.Expressions.{in_body, seen, seen_call, seen_target}
+use Rattle.declared_names.specs.declared.fault.Cause.TheVariants.{Unknown}
+use Rattle.declared_names.specs.declared.sort.Sort.{Sort}
+use Rattle.declared_names.specs.declared.sort.Sort.TheVariants.{Loose, Null, Int, Flag, Object}
+use Rattle.typed_forms.specs.declared.typed.Typed.{Typed}
+use Rattle.typed_forms.specs.declared.typed.Called.{Called}
+use Rattle.declared_names.specs.declared.world.World.{World}
+use Rattle.declared_names.specs.declared.world.Here.{Here}
+use Rattle.declared_names.specs.declared.world.Declared.{Declared}
+use Rattle.declared_names.specs.declared.world.Form.TheVariants as form
+use Rattle.declared_names.specs.Faults.{check}
+use Rattle.declared_names.specs.Seen.{Seen, Stands, over, over_two, unless, beside}
+use Rattle.declared_names.specs.Lookups.{place_in, in_body}
+use Rattle.typed_forms.specs.Operators.{wants}
+use Rattle.typed_forms.specs.Calls.{byte}
+use Rattle.typed_forms.specs.Clauses.{class_sort}
+use Rattle.typed_expressions.specs.Expressions.{seen, seen_call, seen_target}
 use Rattle.typed_statements.specs.declared.statements.Branch.{Branch}
 use Rattle.typed_statements.specs.declared.statements.Piece.{Piece}
 use Rattle.typed_statements.specs.declared.statements.Piece.TheVariants.{One, Many}

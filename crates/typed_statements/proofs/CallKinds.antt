@@ -15,26 +15,26 @@ use Rattle.taco_unit.specs.declared.unit.MethodDef.{MethodDef}
 use Rattle.taco_unit.specs.declared.unit.ParamDef.{ParamDef}
 use Rattle.taco_unit.specs.Kinds.{Around, Sort as UnitSort, Faulty as NoKind, NoValue, NullOnly, Of, suits, where_, sort_of_kind, sort_of_class, field_sort, sort_of, are_arguments, result_sort, is_object_of, in_code}
 use Rattle.taco_unit.proofs.KindForms.{sort_local, sort_read, sort_this, sort_of_call, call_form, called_as, is_target_of, sort_call}
-use Rattle.typed_expressions.specs.declared.fault.Fault.{Fault}
-use Rattle.typed_expressions.specs.declared.fault.Cause.TheVariants.{Kinds}
-use Rattle.typed_expressions.specs.declared.sort.Sort.{Sort}
-use Rattle.typed_expressions.specs.declared.sort.Sort.TheVariants.{Loose, Null, Int, Flag, Object}
-use Rattle.typed_expressions.specs.declared.typed.Typed.{Typed}
-use Rattle.typed_expressions.specs.declared.typed.Place.{Place}
-use Rattle.typed_expressions.specs.declared.typed.Called.{Called}
-use Rattle.typed_expressions.specs.declared.typed.Given.{Given}
-use Rattle.typed_expressions.specs.declared.typed.Arguments.{Arguments}
-use Rattle.typed_expressions.specs.declared.world.World.{World}
-use Rattle.typed_expressions.specs.declared.world.Slot.{Slot}
-use Rattle.typed_expressions.specs.declared.world.MethodKnown.{MethodKnown}
-use Rattle.typed_expressions.specs.declared.world.ParamKnown.{ParamKnown}
-use Rattle.typed_expressions.specs.declared.world.ResultKnown.{ResultKnown}
-use Rattle.typed_expressions.specs.Faults.{check}
-use Rattle.typed_expressions.specs.Seen.{Seen, Stands, Faulty, faulty, over, over_two, unless}
-use Rattle.typed_expressions.specs.Sorts.{fits}
-use Rattle.typed_expressions.specs.Lookups.{Scope, field_slot, local_slot}
-use Rattle.typed_expressions.specs.Operators.{typed, wanted}
-use Rattle.typed_expressions.specs.Calls.{byte, local_place, field_place, object_field, own_field, place_of_name, named_place, read_of, read_place, value_at, place_value, argument_faults, passed, called, call_to, own_call, own_target, class_call, method_call, object_call, method_of, call_value, with_argument}
+use Rattle.declared_names.specs.declared.fault.Fault.{Fault}
+use Rattle.declared_names.specs.declared.fault.Cause.TheVariants.{Kinds}
+use Rattle.declared_names.specs.declared.sort.Sort.{Sort}
+use Rattle.declared_names.specs.declared.sort.Sort.TheVariants.{Loose, Null, Int, Flag, Object}
+use Rattle.typed_forms.specs.declared.typed.Typed.{Typed}
+use Rattle.typed_forms.specs.declared.typed.Place.{Place}
+use Rattle.typed_forms.specs.declared.typed.Called.{Called}
+use Rattle.typed_forms.specs.declared.typed.Given.{Given}
+use Rattle.typed_forms.specs.declared.typed.Arguments.{Arguments}
+use Rattle.declared_names.specs.declared.world.World.{World}
+use Rattle.declared_names.specs.declared.world.Slot.{Slot}
+use Rattle.declared_names.specs.declared.world.MethodKnown.{MethodKnown}
+use Rattle.declared_names.specs.declared.world.ParamKnown.{ParamKnown}
+use Rattle.declared_names.specs.declared.world.ResultKnown.{ResultKnown}
+use Rattle.declared_names.specs.Faults.{check}
+use Rattle.declared_names.specs.Seen.{Seen, Stands, Faulty, faulty, over, over_two, unless}
+use Rattle.declared_names.specs.Sorts.{fits}
+use Rattle.declared_names.specs.Lookups.{Scope, field_slot, local_slot, method_of}
+use Rattle.typed_forms.specs.Operators.{typed, wanted}
+use Rattle.typed_forms.specs.Calls.{byte, local_place, field_place, object_field, own_field, place_of_name, named_place, read_of, read_place, value_at, place_value, argument_faults, passed, called, call_to, own_call, own_target, class_call, method_call, object_call, call_value, with_argument}
 use Rattle.typed_statements.specs.Kinds.{kind_of, param_def, result_def}
 use Rattle.typed_statements.proofs.Stand.{OnStands, on_unless, nothing_left, nothing_right, passes}
 use Rattle.typed_statements.proofs.Suits.{as_sort, is_known, is_kind, kind_known, kind_sort, fits_suits, HasSort, both_pass, one_passes}

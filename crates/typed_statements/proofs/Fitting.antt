@@ -18,26 +18,26 @@ use Rattle.taco_unit.specs.declared.stmt.Stmt.TheVariants as s
 use Rattle.taco_unit.specs.Kinds.{Around, Sort as UnitSort, Of, Code, suits, sort_of, sort_of_kind, is_condition, is_kind_of, in_code}
 use Rattle.taco_unit.specs.Bodies.{takes, place_sort as unit_place_sort, is_call, returns, is_fitting}
 use Rattle.taco_unit.proofs.KindForms.{sort_local, sort_read, sort_call, sort_num, sort_flag, sort_null, sort_of_call, fitting_block, fitting_set, fitting_write, fitting_step_local, fitting_step_field, fitting_if, fitting_while, fitting_return, fitting_run}
-use Rattle.typed_expressions.specs.declared.fault.Fault.{Fault}
-use Rattle.typed_expressions.specs.declared.fault.Cause.TheVariants.{Unknown, Kinds}
-use Rattle.typed_expressions.specs.declared.sort.Sort.{Sort}
-use Rattle.typed_expressions.specs.declared.sort.Sort.TheVariants.{Loose, Null, Int, Flag, Object}
-use Rattle.typed_expressions.specs.declared.typed.Typed.{Typed}
-use Rattle.typed_expressions.specs.declared.typed.Place.{Place}
-use Rattle.typed_expressions.specs.declared.typed.Spot.{Spot}
-use Rattle.typed_expressions.specs.declared.typed.Spot.TheVariants as spot
-use Rattle.typed_expressions.specs.declared.typed.Called.{Called}
-use Rattle.typed_expressions.specs.declared.world.World.{World}
-use Rattle.typed_expressions.specs.declared.world.Here.{Here}
-use Rattle.typed_expressions.specs.declared.world.Declared.{Declared}
-use Rattle.typed_expressions.specs.declared.world.Form.{Form}
-use Rattle.typed_expressions.specs.declared.world.Form.TheVariants as form
-use Rattle.typed_expressions.specs.Faults.{check, fault}
-use Rattle.typed_expressions.specs.Seen.{Seen, Stands, Faulty, over, over_two, unless, beside}
-use Rattle.typed_expressions.specs.Lookups.{Scope, place_in}
-use Rattle.typed_expressions.specs.Operators.{wanted, wants}
-use Rattle.typed_expressions.specs.Calls.{byte, value_at, no_arguments, own_call, method_of, read_place}
-use Rattle.typed_expressions.specs.Expressions.{in_body, seen, seen_from, seen_call, seen_target, own_called, dotted, class_name_of, bare_name}
+use Rattle.declared_names.specs.declared.fault.Fault.{Fault}
+use Rattle.declared_names.specs.declared.fault.Cause.TheVariants.{Unknown, Kinds}
+use Rattle.declared_names.specs.declared.sort.Sort.{Sort}
+use Rattle.declared_names.specs.declared.sort.Sort.TheVariants.{Loose, Null, Int, Flag, Object}
+use Rattle.typed_forms.specs.declared.typed.Typed.{Typed}
+use Rattle.typed_forms.specs.declared.typed.Place.{Place}
+use Rattle.typed_forms.specs.declared.typed.Spot.{Spot}
+use Rattle.typed_forms.specs.declared.typed.Spot.TheVariants as spot
+use Rattle.typed_forms.specs.declared.typed.Called.{Called}
+use Rattle.declared_names.specs.declared.world.World.{World}
+use Rattle.declared_names.specs.declared.world.Here.{Here}
+use Rattle.declared_names.specs.declared.world.Declared.{Declared}
+use Rattle.declared_names.specs.declared.world.Form.{Form}
+use Rattle.declared_names.specs.declared.world.Form.TheVariants as form
+use Rattle.declared_names.specs.Faults.{check, fault}
+use Rattle.declared_names.specs.Seen.{Seen, Stands, Faulty, over, over_two, unless, beside}
+use Rattle.declared_names.specs.Lookups.{Scope, place_in, method_of, in_body}
+use Rattle.typed_forms.specs.Operators.{wanted, wants}
+use Rattle.typed_forms.specs.Calls.{byte, value_at, no_arguments, own_call, read_place}
+use Rattle.typed_expressions.specs.Expressions.{seen, seen_from, seen_call, seen_target, own_called, dotted, class_name_of, bare_name}
 use Rattle.typed_statements.specs.declared.statements.Piece.{Piece}
 use Rattle.typed_statements.specs.declared.statements.Piece.TheVariants.{One, Many}
 use Rattle.typed_statements.specs.Kinds.{kind_of}

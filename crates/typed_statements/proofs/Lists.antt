@@ -1,5 +1,5 @@
 -- The lemmas on what is reported, for this crate's attributes.
-use Rattle.typed_expressions.proofs.Told.{told_leaves, wholes}
+use Rattle.declared_names.proofs.Told.{told_leaves, wholes}
 
 -- what a form itself has
 pub ruleset leaves = (told_leaves)

@@ -8,15 +8,15 @@ use Rattle.taco_unit.specs.declared.expr.Expr.TheVariants as e
 use Rattle.taco_unit.specs.declared.expr.Op.TheVariants as op
 use Rattle.taco_unit.specs.Kinds.{Around, Sort as UnitSort, Of, Form as UnitForm, Code, Entry, Exit, Past, suits, alike, where_, sort_of, in_clause, in_code, in_exit}
 use Rattle.taco_unit.proofs.KindForms.{sort_bin, sort_not, sort_neg, sort_num}
-use Rattle.typed_expressions.specs.declared.fault.Cause.TheVariants.{Kinds}
-use Rattle.typed_expressions.specs.declared.sort.Sort.TheVariants.{Int, Flag}
-use Rattle.typed_expressions.specs.declared.typed.Typed.{Typed}
-use Rattle.typed_expressions.specs.declared.world.Form.{Form}
-use Rattle.typed_expressions.specs.declared.world.Form.TheVariants as form
-use Rattle.typed_expressions.specs.Faults.{check}
-use Rattle.typed_expressions.specs.Operators.{typed, wants, operand_sort, operand_faults, operated, op_of, result_sort, is_of_code, negated, minus_value, minus_of, literal}
-use Rattle.typed_expressions.specs.Seen.{Seen, Stands}
-use Rattle.typed_expressions.specs.Clauses.{is_clause, is_exit}
+use Rattle.declared_names.specs.declared.fault.Cause.TheVariants.{Kinds}
+use Rattle.declared_names.specs.declared.sort.Sort.TheVariants.{Int, Flag}
+use Rattle.typed_forms.specs.declared.typed.Typed.{Typed}
+use Rattle.declared_names.specs.declared.world.Form.{Form}
+use Rattle.declared_names.specs.declared.world.Form.TheVariants as form
+use Rattle.declared_names.specs.Faults.{check}
+use Rattle.typed_forms.specs.Operators.{typed, wants, operand_sort, operand_faults, operated, op_of, result_sort, is_of_code, negated, minus_value, minus_of, literal}
+use Rattle.declared_names.specs.Seen.{Seen, Stands}
+use Rattle.typed_forms.specs.Clauses.{is_clause, is_exit}
 use Rattle.typed_statements.proofs.Stand.{OnStands, on_unless, on_over, nothing_left, nothing_right, passes}
 use Rattle.typed_statements.proofs.Suits.{as_sort, is_known, HasSort, wanted_suits, compared_alike, both_pass, one_passes}
 

@@ -1,9 +1,9 @@
 -- What holds of a meaning that stands.
 use Rattle.std.proofs.Common.{◌≡◌, ℕ, Bool, true, false, List, [], ◌∷◌, ◌++◌, refl, subst}
-use Rattle.typed_expressions.specs.declared.fault.Fault.{Fault}
-use Rattle.typed_expressions.specs.declared.fault.Cause.{Cause}
-use Rattle.typed_expressions.specs.Faults.{check}
-use Rattle.typed_expressions.specs.Seen.{Seen, Stands, Faulty, over, over_two, unless, beside}
+use Rattle.declared_names.specs.declared.fault.Fault.{Fault}
+use Rattle.declared_names.specs.declared.fault.Cause.{Cause}
+use Rattle.declared_names.specs.Faults.{check}
+use Rattle.declared_names.specs.Seen.{Seen, Stands, Faulty, over, over_two, unless, beside}
 
 abbrev pub OnStands : {A : Type 0} → Seen A → (A → Type 0) → Type 0
 OnStands (Stands x) P = P x

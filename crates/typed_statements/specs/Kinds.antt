@@ -3,11 +3,11 @@ use Rattle.taco_unit.specs.declared.kind.Kind.{Kind}
 use Rattle.taco_unit.specs.declared.kind.Kind.TheVariants as kind
 use Rattle.taco_unit.specs.declared.unit.ParamDef.{ParamDef}
 use Rattle.std.specs.Prelude.{Bool}
-use Rattle.typed_expressions.specs.declared.sort.Sort.{Sort}
-use Rattle.typed_expressions.specs.declared.sort.Sort.TheVariants.{Loose, Null, Int, Flag, Object}
-use Rattle.typed_expressions.specs.declared.world.ParamKnown.{ParamKnown}
-use Rattle.typed_expressions.specs.declared.world.ResultKnown.{ResultKnown}
-use Rattle.typed_expressions.specs.Calls.{byte}
+use Rattle.declared_names.specs.declared.sort.Sort.{Sort}
+use Rattle.declared_names.specs.declared.sort.Sort.TheVariants.{Loose, Null, Int, Flag, Object}
+use Rattle.declared_names.specs.declared.world.ParamKnown.{ParamKnown}
+use Rattle.declared_names.specs.declared.world.ResultKnown.{ResultKnown}
+use Rattle.typed_forms.specs.Calls.{byte}
 
 abbrev pub kind_of : Sort → Kind
 kind_of Loose = kind.Int

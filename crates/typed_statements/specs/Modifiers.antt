@@ -3,9 +3,9 @@ use Rattle.std.specs.Prelude.{ℕ, max, Bool, true, false, ◌&&◌, ◌||◌, L
 use Rattle.java_tree.specs.declared.names.ModWord.{ModWord}
 use Rattle.java_tree.specs.declared.names.ModWord.TheVariants.{Static, Nullable, NonNull, NullableByDefault, NonNullByDefault}
 use Rattle.java_tree.specs.declared.names.Modifier.{Modifier}
-use Rattle.typed_expressions.specs.declared.fault.Fault.{Fault}
-use Rattle.typed_expressions.specs.declared.fault.Cause.TheVariants.{Twice, Kinds}
-use Rattle.typed_expressions.specs.Faults.{check, fault}
+use Rattle.declared_names.specs.declared.fault.Fault.{Fault}
+use Rattle.declared_names.specs.declared.fault.Cause.TheVariants.{Twice, Kinds}
+use Rattle.declared_names.specs.Faults.{check, fault}
 use Rattle.typed_statements.specs.declared.modifiers.Marks.{Marks}
 
 abbrev pub no_marks : Marks

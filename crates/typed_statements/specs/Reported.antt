@@ -1,17 +1,17 @@
 -- The same meanings, by what is reported of the parts.
 use Rattle.std.specs.Prelude.{ℕ, Bool, true, false, List, [], ◌∷◌, ◌++◌, Option, None, Some, Result, Ok}
 use Rattle.java_tree.specs.Trees.{Decl, Stmts, done, next as next_stmt}
-use Rattle.typed_expressions.specs.declared.world.World.{World}
-use Rattle.typed_expressions.specs.declared.world.Here.{Here}
+use Rattle.declared_names.specs.declared.world.World.{World}
+use Rattle.declared_names.specs.declared.world.Here.{Here}
 use Rattle.taco_unit.specs.declared.stmt.Stmt.{Stmt as UnitStmt}
-use Rattle.typed_expressions.specs.declared.fault.Fault.{Fault}
-use Rattle.typed_expressions.specs.declared.sort.Sort.{Sort}
-use Rattle.typed_expressions.specs.declared.typed.Typed.{Typed}
-use Rattle.typed_expressions.specs.Seen.{Stands, told, on, on_two}
+use Rattle.declared_names.specs.declared.fault.Fault.{Fault}
+use Rattle.declared_names.specs.declared.sort.Sort.{Sort}
+use Rattle.typed_forms.specs.declared.typed.Typed.{Typed}
+use Rattle.declared_names.specs.Seen.{Stands, told, on, on_two}
 use Rattle.typed_statements.specs.declared.statements.Piece.{Piece}
 use Rattle.typed_statements.specs.Statements.{State, is_full, as_list, seen_decl, seen_stmt, first_value, initial, return_none, return_of}
 use Rattle.taco_unit.specs.declared.stmt.Stmt.TheVariants as s
-use Rattle.typed_expressions.specs.Calls.{byte}
+use Rattle.typed_forms.specs.Calls.{byte}
 
 -- the first value of a local
 abbrev pub first_reported : Sort → ℕ → Option (Result Typed Fault) → Result UnitStmt Fault

@@ -8,25 +8,25 @@ use Rattle.taco_unit.specs.declared.expr.Expr.{Expr as UnitExpr}
 use Rattle.taco_unit.specs.declared.expr.Expr.TheVariants as e
 use Rattle.taco_unit.specs.declared.stmt.Stmt.{Stmt as UnitStmt}
 use Rattle.taco_unit.specs.declared.stmt.Stmt.TheVariants as s
-use Rattle.typed_expressions.specs.declared.fault.Fault.{Fault}
-use Rattle.typed_expressions.specs.declared.fault.Many.TheVariants.{Locals, Loops}
-use Rattle.typed_expressions.specs.declared.fault.Cause.TheVariants.{Twice, Kinds, TooMany}
-use Rattle.typed_expressions.specs.declared.sort.Sort.{Sort}
-use Rattle.typed_expressions.specs.declared.sort.Sort.TheVariants.{Loose, Null, Int, Flag, Object}
-use Rattle.typed_expressions.specs.declared.typed.Typed.{Typed}
-use Rattle.typed_expressions.specs.declared.typed.Place.{Place}
-use Rattle.typed_expressions.specs.declared.typed.Spot.{Spot}
-use Rattle.typed_expressions.specs.declared.typed.Spot.TheVariants as spot
-use Rattle.typed_expressions.specs.declared.typed.Called.{Called}
-use Rattle.typed_expressions.specs.declared.world.World.{World}
-use Rattle.typed_expressions.specs.declared.world.Here.{Here}
-use Rattle.typed_expressions.specs.declared.world.Declared.{Declared}
-use Rattle.typed_expressions.specs.Faults.{check, fault}
-use Rattle.typed_expressions.specs.Seen.{Seen, Stands, over, over_two, unless, beside}
-use Rattle.typed_expressions.specs.Lookups.{local_slot}
-use Rattle.typed_expressions.specs.Operators.{wanted, wants}
-use Rattle.typed_expressions.specs.Calls.{byte}
-use Rattle.typed_expressions.specs.Expressions.{in_body, seen, seen_call, seen_target}
+use Rattle.declared_names.specs.declared.fault.Fault.{Fault}
+use Rattle.declared_names.specs.declared.fault.Many.TheVariants.{Locals, Loops}
+use Rattle.declared_names.specs.declared.fault.Cause.TheVariants.{Twice, Kinds, TooMany}
+use Rattle.declared_names.specs.declared.sort.Sort.{Sort}
+use Rattle.declared_names.specs.declared.sort.Sort.TheVariants.{Loose, Null, Int, Flag, Object}
+use Rattle.typed_forms.specs.declared.typed.Typed.{Typed}
+use Rattle.typed_forms.specs.declared.typed.Place.{Place}
+use Rattle.typed_forms.specs.declared.typed.Spot.{Spot}
+use Rattle.typed_forms.specs.declared.typed.Spot.TheVariants as spot
+use Rattle.typed_forms.specs.declared.typed.Called.{Called}
+use Rattle.declared_names.specs.declared.world.World.{World}
+use Rattle.declared_names.specs.declared.world.Here.{Here}
+use Rattle.declared_names.specs.declared.world.Declared.{Declared}
+use Rattle.declared_names.specs.Faults.{check, fault}
+use Rattle.declared_names.specs.Seen.{Seen, Stands, over, over_two, unless, beside}
+use Rattle.declared_names.specs.Lookups.{local_slot, in_body}
+use Rattle.typed_forms.specs.Operators.{wanted, wants}
+use Rattle.typed_forms.specs.Calls.{byte}
+use Rattle.typed_expressions.specs.Expressions.{seen, seen_call, seen_target}
 use Rattle.typed_statements.specs.declared.statements.Branch.{Branch}
 use Rattle.typed_statements.specs.declared.statements.Piece.{Piece}
 use Rattle.typed_statements.specs.declared.statements.Piece.TheVariants.{One, Many}

@@ -1,19 +1,19 @@
 ghost use Rattle.std.specs.Prelude.{◌≡◌, ◌∷◌, ◌++◌, [], map, option_map, OnOk, IfOk};
 ghost use Rattle.java_tree.specs.Seen.{class_tree, classes_tree, method_tree, param_tree, part_tree};
-ghost use Rattle.typed_expressions.specs.Faults.{soonest};
+ghost use Rattle.declared_names.specs.Faults.{soonest};
 ghost use Rattle.typed_statements.specs.Heads.{bare_world as bare_world_lem, class_names as class_names_lem, field_known as field_known_lem, here_in as here_in_lem, here_of as here_of_lem, is_default as is_default_lem, is_object_type as is_object_type_lem, method_known as method_known_lem, next as next_lem, param_faults, param_known as param_known_lem, params_faults, result_known as result_known_lem, type_faults, type_sort as type_sort_lem, typed_faults, with_classes, with_field, with_method, with_part, with_parts, world_of};
 
 use crate::modifiers::{first_places, is_nullable, modifier_fault, nullness_fault};
 use crate::words::word_fault;
+use declared_names::{
+    Cause, Fault, FieldKnown, Here, Many, MethodKnown, Names, ParamKnown, ResultKnown, Sort, World,
+    earlier, unless,
+};
 use java_tree::{ClassTree, Ident, Member, MethodTree, Modifier, ParamTree, Tree, TypeTree};
 use no_memory::NoMemory;
 use sqlite_items::Items;
 use std::alloc::Global;
 use taco_unit::Name;
-use typed_expressions::{
-    Cause, Fault, FieldKnown, Here, Many, MethodKnown, Names, ParamKnown, ResultKnown, Sort, World,
-    earlier, unless,
-};
 
 pub fn is_object_type(kind: &TypeTree) -> bool
     ensures { result ≡ is_object_type_lem kind.now }

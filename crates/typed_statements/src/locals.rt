@@ -1,16 +1,15 @@
 ghost use Rattle.std.specs.Prelude.{◌≡◌, ◌≤◌, [], length, take, OnOk};
-ghost use Rattle.typed_expressions.specs.Faults.{soonest};
+ghost use Rattle.declared_names.specs.Faults.{soonest};
 ghost use Rattle.typed_statements.specs.Statements.{is_full as is_full_lem, local_faults, number_of as number_of_lem, with_local};
 ghost use Rattle.typed_statements.specs.Held.{state_of};
 
+use declared_names::{Cause, Declared, Fault, Here, Many, Sort, earlier, is_fresh, unless};
 use java_tree::Ident;
 use no_memory::NoMemory;
 use sqlite_items::Items;
 use std::alloc::Global;
 use taco_unit::Name;
-use typed_expressions::{
-    Cause, Declared, Fault, Here, Many, Sort, byte, earlier, is_fresh, unless,
-};
+use typed_forms::byte;
 
 /// The locals in scope, and the kinds of all that the method has declared so far.
 #[derive(Drop)]

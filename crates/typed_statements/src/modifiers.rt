@@ -1,9 +1,9 @@
 ghost use Rattle.std.specs.Prelude.{◌≡◌};
-ghost use Rattle.typed_expressions.specs.Faults.{soonest};
+ghost use Rattle.declared_names.specs.Faults.{soonest};
 ghost use Rattle.typed_statements.specs.Modifiers.{is_nullable as is_nullable_lem, kinds_at as kinds_at_lem, marked as marked_lem, marks_of, modifier_faults, no_marks as no_marks_lem, nullness_faults, opposed as opposed_lem, or_first as or_first_lem, place_of as place_of_lem, repeated_at, repeated_from};
 
+use declared_names::{Cause, Fault, earlier, unless};
 use java_tree::{ModWord, Modifier};
-use typed_expressions::{Cause, Fault, earlier, unless};
 
 /// The first place of each modifier.
 #[derive(Clone, Copy, Debug, PartialEq, Eq)]

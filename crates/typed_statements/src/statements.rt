@@ -1,24 +1,24 @@
 ghost use Rattle.std.specs.Prelude.{◌≡◌, ◌≤◌, ◌∷◌, ◌++◌, [], length, map, option_map, None, Some, IfOk, OnOk};
 ghost use Rattle.java_tree.specs.Seen.{decl_tree, java_tree, stmt_tree, stmt_trees};
-ghost use Rattle.typed_expressions.specs.Faults.{soonest};
-ghost use Rattle.typed_expressions.specs.Seen.{told, on, on_two, over, over_two, Stands};
+ghost use Rattle.declared_names.specs.Faults.{soonest};
+ghost use Rattle.declared_names.specs.Seen.{told, on, on_two, over, over_two, Stands};
 ghost use Rattle.taco_unit.specs.declared.stmt.Stmt.TheVariants as s;
-ghost use Rattle.typed_expressions.specs.Expressions.{in_body, seen, seen_call, seen_target};
+ghost use Rattle.declared_names.specs.Lookups.{in_body};
+ghost use Rattle.typed_expressions.specs.Expressions.{seen, seen_call, seen_target};
 ghost use Rattle.typed_statements.specs.Held.{state_of};
 ghost use Rattle.typed_statements.specs.Statements.{as_list as as_list_lem, as_stmt as as_stmt_lem, assigned as assigned_lem, block_of, branch, branch_of, condition_of, many_loops, returned, counted as counted_lem, first_value as first_value_lem, given_faults, initial as initial_lem, nothing as nothing_lem, return_of, run_of, seen_body, seen_decl, seen_decls, seen_local, seen_stmt, seen_stmts, set_of, step_of};
 ghost use Rattle.typed_statements.specs.Reported.{first_reported, return_reported};
 
 use crate::heads::{type_sort, typed_fault};
 use crate::locals::{Locals, close, declare, is_full, local_fault, no_locals, number_of};
+use declared_names::{Cause, Declared, Fault, Here, Many, Sort, World, beside, pair, unless};
 use java_tree::{DeclTree, Ident, JavaTree, Modifier, StmtTree, TypeTree};
 use no_memory::NoMemory;
 use sqlite_items::{Boxed, Items};
 use std::alloc::Global;
 use taco_unit::{Expr, Stmt};
-use typed_expressions::{
-    Called, Cause, Declared, Fault, Here, Many, Place, Sort, Spot, Typed, World, beside, byte,
-    call, java, pair, target, unless, wanted, wants,
-};
+use typed_expressions::{call, java, target};
+use typed_forms::{Called, Place, Spot, Typed, byte, wanted, wants};
 
 /// What a statement becomes: one, or for a declaration one assignment for each local.
 #[derive(Drop)]

@@ -1,11 +1,11 @@
 ghost use Rattle.std.specs.Prelude.{◌≡◌};
 ghost use Rattle.std.specs.List.{list_all};
 ghost use Rattle.taco_unit.specs.Words.{begins_word as begins_word_lem, continues_word as continues_word_lem, is_word as is_word_lem};
-ghost use Rattle.typed_expressions.specs.Faults.{soonest};
+ghost use Rattle.declared_names.specs.Faults.{soonest};
 ghost use Rattle.typed_statements.specs.Heads.{word_faults};
 
+use declared_names::{Cause, Fault, unless};
 use java_tree::Ident;
-use typed_expressions::{Cause, Fault, unless};
 
 /// Whether a byte may stand first in a word.
 fn begins_word(byte: u8) -> bool

@@ -1,6 +1,6 @@
 use Rattle.std.proofs.Common.{◌≡◌, ap, sym, subst, ◌∙◌}
 use Rattle.java_tree.specs.Seen.{classes_tree}
-use Rattle.typed_expressions.specs.Seen.{Stands}
+use Rattle.declared_names.specs.Seen.{Stands}
 use Rattle.typed_core.specs.declared.fault.NameFault.{NameFault}
 use Rattle.typed_core.specs.Members.{resolved}
 use Rattle.typed_core.specs.Resolved.{Refuses}

@@ -1,7 +1,7 @@
 use Rattle.std.proofs.Common.{◌≡◌, drop, Ok}
 use Rattle.java_tree.specs.Seen.{java_trees}
-use Rattle.typed_expressions.specs.Calls.{no_arguments}
-use Rattle.typed_expressions.specs.Expressions.{in_body}
+use Rattle.typed_forms.specs.Calls.{no_arguments}
+use Rattle.declared_names.specs.Lookups.{in_body}
 use Rattle.typed_expressions.proofs.Arms.{reported_from}
 use Rattle.typed_expressions.proofs.code.+code.Given as goal
 

@@ -2,12 +2,12 @@ use Rattle.std.proofs.Common.{◌≡◌, Result, ap, sym, subst, ◌∙◌}
 use Rattle.std.specs.Prelude.{IfOk}
 use Rattle.java_tree.specs.Seen.{java_node, java_tree, java_trees}
 use Rattle.java_tree.proofs.Rows.{java_call, java_call_on}
-use Rattle.typed_expressions.specs.declared.fault.Fault.{Fault}
-use Rattle.typed_expressions.specs.declared.typed.Called.{Called}
-use Rattle.typed_expressions.specs.Seen.{Stands, told}
-use Rattle.typed_expressions.specs.Lookups.{Scope}
-use Rattle.typed_expressions.specs.Calls.{no_arguments}
-use Rattle.typed_expressions.specs.Expressions.{in_body, seen, seen_from, seen_call, class_name_of, bare_name}
+use Rattle.declared_names.specs.declared.fault.Fault.{Fault}
+use Rattle.typed_forms.specs.declared.typed.Called.{Called}
+use Rattle.declared_names.specs.Seen.{Stands, told}
+use Rattle.declared_names.specs.Lookups.{Scope, in_body}
+use Rattle.typed_forms.specs.Calls.{no_arguments}
+use Rattle.typed_expressions.specs.Expressions.{seen, seen_from, seen_call, class_name_of, bare_name}
 use Rattle.typed_expressions.proofs.Arms.{told-own_called, told-dotted_call}
 use Rattle.typed_expressions.proofs.code.call.Goals as goal
 

@@ -2,8 +2,8 @@ use Rattle.std.proofs.Common.{◌≡◌, ◌≤◌, ◌<◌, ◌+◌, ℕ, List,
 use Rattle.std.proofs.lemmas.List.{drop_all, drop_more}
 use Rattle.java_tree.specs.declared.members.ParamTree.{ParamTree}
 use Rattle.java_tree.specs.Seen.{param_tree}
-use Rattle.typed_expressions.specs.Faults.{soonest, earlier}
-use Rattle.typed_expressions.proofs.Told.{next_fault, last_fault, none-earlier}
+use Rattle.declared_names.specs.Faults.{soonest, earlier}
+use Rattle.declared_names.proofs.Told.{next_fault, last_fault, none-earlier}
 use Rattle.typed_statements.specs.Heads.{param_faults, params_faults}
 use Rattle.typed_statements.proofs.heads.params_fault.Goals as goal
 
@@ -16,7 +16,7 @@ loop-param-preserved c =
     let key : List ℕ → ℕ × List ℕ = λ t. (0, t) in
     let left : drop c.loop-param.param-index c.args.params.now ≡ c.param-item.result ∷ drop (c.loop-param.param-index + 1) c.args.params.now =
     drop_more c.args.params.now c.loop-param.param-index c.param-item.result within ∙ ap (λ p. p ∷ drop (c.loop-param.param-index + 1) c.args.params.now) (sym c.param-item.is) in
-    let before = c.in_ok-push.ensures ∙ ap (λ t. c.loop-param.before ++ key t ∷ []) c.bytes.ensures in
+    let before = c.in_ok-push.ensures.added ∙ ap (λ t. c.loop-param.before ++ key t ∷ []) c.bytes.ensures in
     ap (λ r. earlier r (soonest (params_faults c.args.classes.now c.push.new.self (map param_tree (drop (c.loop-param.param-index + 1) c.args.params.now))))) c.earlier-found.ensures
     ∙ ap (λ b. earlier (earlier c.loop-param.found c.param_fault.result) (soonest (params_faults c.args.classes.now b (map param_tree (drop (c.loop-param.param-index + 1) c.args.params.now))))) before
     ∙ next_fault c.loop-param.found c.param_fault.result (param_faults c.args.classes.now c.loop-param.before (param_tree c.param-item.result))

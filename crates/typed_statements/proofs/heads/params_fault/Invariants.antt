@@ -1,6 +1,6 @@
 use Rattle.std.proofs.Common.{◌≡◌, [], drop, map}
 use Rattle.java_tree.specs.Seen.{param_tree}
-use Rattle.typed_expressions.specs.Faults.{soonest, earlier}
+use Rattle.declared_names.specs.Faults.{soonest, earlier}
 use Rattle.typed_statements.specs.Heads.{params_faults}
 use Rattle.typed_statements.proofs.heads.params_fault.Given as goal
 

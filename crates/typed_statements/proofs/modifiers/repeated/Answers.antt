@@ -2,8 +2,8 @@ use Rattle.std.proofs.Common.{◌≡◌, ◌≤◌, ◌<◌, ◌+◌, ◌∷◌,
 use Rattle.std.proofs.lemmas.List.{drop_all, drop_more}
 use Rattle.java_tree.specs.declared.names.ModWord.TheVariants.{Static}
 use Rattle.java_tree.specs.declared.names.Modifier.{Modifier}
-use Rattle.typed_expressions.specs.Faults.{soonest, earlier}
-use Rattle.typed_expressions.proofs.Told.{next_fault, last_fault, none-earlier}
+use Rattle.declared_names.specs.Faults.{soonest, earlier}
+use Rattle.declared_names.proofs.Told.{next_fault, last_fault, none-earlier}
 use Rattle.typed_statements.specs.Modifiers.{repeated_at, repeated_from, marked}
 use Rattle.typed_statements.proofs.modifiers.repeated.Goals as goal
 

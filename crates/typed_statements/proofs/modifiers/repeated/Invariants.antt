@@ -1,5 +1,5 @@
 use Rattle.std.proofs.Common.{◌≡◌, drop}
-use Rattle.typed_expressions.specs.Faults.{soonest, earlier}
+use Rattle.declared_names.specs.Faults.{soonest, earlier}
 use Rattle.typed_statements.specs.Modifiers.{no_marks, repeated_from}
 use Rattle.typed_statements.proofs.modifiers.repeated.Given as goal
 

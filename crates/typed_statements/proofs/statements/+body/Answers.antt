@@ -6,7 +6,7 @@ use Rattle.java_tree.proofs.Rows.{stmt_block}
 use Rattle.taco_unit.specs.declared.stmt.Stmt.{Stmt}
 use Rattle.typed_statements.specs.Held.{state_of}
 use Rattle.typed_statements.specs.Reported.{Turn, stmts_told}
-use Rattle.typed_expressions.specs.Seen.{told}
+use Rattle.declared_names.specs.Seen.{told}
 use Rattle.typed_statements.specs.Statements.{seen_stmt}
 use Rattle.typed_statements.proofs.Steps.{arms}
 use Rattle.typed_statements.proofs.Forms.{stmts-state, stmts-is}

@@ -1,8 +1,0 @@
-use Rattle.std.proofs.Common.{◌≡◌, drop}
-use Rattle.typed_expressions.specs.Faults.{soonest, earlier}
-use Rattle.typed_expressions.specs.Calls.{argument_faults}
-use Rattle.typed_expressions.proofs.calls.argument_fault.Given as goal
-
--- what is left still has its faults
-abbrev pub invariant-loop-place : goal.invariant-loop-place
-invariant-loop-place l = earlier l.found (soonest (argument_faults (drop l.place l.params) (drop l.place l.given))) ≡ soonest (argument_faults l.params l.given)

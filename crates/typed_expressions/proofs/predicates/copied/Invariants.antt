@@ -1,6 +1,0 @@
-use Rattle.std.proofs.Common.{◌≡◌, ◌++◌, drop}
-use Rattle.typed_expressions.proofs.predicates.copied.Given as goal
-
--- what is left is still to be copied
-abbrev pub invariant-loop-declared : goal.invariant-loop-declared
-invariant-loop-declared l = l.copies ++ drop l.declared-index l.bound ≡ l.bound
