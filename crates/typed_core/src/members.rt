@@ -263,7 +263,6 @@ fn giving(
 }
 
 /// The clauses of a method.
-
 fn clauses(
     alloc: Global,
     world: &World<'_>,
@@ -530,7 +529,6 @@ fn with_made(
 }
 
 /// The members of a class, behind so many of the classes before.
-
 pub(crate) fn all_members(
     alloc: Global,
     world: &World<'_>,

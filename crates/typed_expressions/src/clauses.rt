@@ -65,14 +65,14 @@ pub fn jml(
             old_value(alloc, tree.at, is_exit(form), a)
         }
         JmlNode::Quant(all, kind, name, None, body) => {
-            let inner = with_variable(alloc, world, here, form, bound, kind, name)?;
+            let inner = with_variable(alloc, world, bound, kind, name)?;
             let body = jml(alloc, world, here, form, inner.as_slice(), body)?;
             quantified_body(
                 alloc, world, here, form, bound, tree.at, *all, kind, name, body,
             )
         }
         JmlNode::Quant(all, kind, name, Some(range), body) => {
-            let inner = with_variable(alloc, world, here, form, bound, kind, name)?;
+            let inner = with_variable(alloc, world, bound, kind, name)?;
             let range = jml(alloc, world, here, form, inner.as_slice(), range)?;
             let body = jml(alloc, world, here, form, inner.as_slice(), body)?;
             quantified_both(

@@ -66,11 +66,11 @@ abbrev pub sort_of_class : World → Ident → Sort
 sort_of_class w kind = class_sort (place_in w.classes 0 kind.text)
 
 -- a variable has the number of the quantifiers around its own
-abbrev pub variable : Scope → Ident → Ident → Declared
-variable sc kind i = record { name = i.text; sort = sort_of_class sc.world kind; number = length sc.bound }
+abbrev pub variable : World → List Declared → Ident → Ident → Declared
+variable w bound kind i = record { name = i.text; sort = sort_of_class w kind; number = length bound }
 
 abbrev pub with_variable : Scope → Ident → Ident → Scope
-with_variable sc kind i = record sc { bound = sc.bound ++ variable sc kind i ∷ [] }
+with_variable sc kind i = record sc { bound = sc.bound ++ variable sc.world sc.bound kind i ∷ [] }
 
 -- the class has a meaning, the name is new, and the quantifier is not the first beyond four nested ones
 unfoldable pub quantifier_faults : Scope → ℕ → Ident → Ident → List Fault
@@ -79,12 +79,12 @@ quantifier_faults sc at kind i =
     ++ check (is_none (declared_slot sc.bound i.text) && is_none (local_slot sc.here sc.held i.text)) i.at Twice
     ++ check (not (length sc.bound == 4)) at (TooMany Quantifiers)
 
-abbrev pub quantifier : Scope → Bool → Ident → Option Typed → Typed → Quant
-quantifier sc all kind range body =
+abbrev pub quantifier : World → List Declared → Bool → Ident → Option Typed → Typed → Quant
+quantifier w bound all kind range body =
     roll-Quant (record {
       all = all;
-      class = byte (unwrap_or (place_in sc.world.classes 0 kind.text) 0);
-      bound = byte (length sc.bound);
+      class = byte (unwrap_or (place_in w.classes 0 kind.text) 0);
+      bound = byte (length bound);
       range = option_map (λ r. r.expr) range;
       body = body.expr;
     })
@@ -95,7 +95,7 @@ range_faults (Some r) = wants Flag r
 
 abbrev pub quantified : Scope → ℕ → Bool → Ident → Ident → Option Typed → Typed → Seen Typed
 quantified sc at all kind i range body =
-    unless (quantifier_faults sc at kind i ++ range_faults range ++ wants Flag body) (typed at Flag (e.Quant (quantifier sc all kind range body)))
+    unless (quantifier_faults sc at kind i ++ range_faults range ++ wants Flag body) (typed at Flag (e.Quant (quantifier sc.world sc.bound all kind range body)))
 
 -- REACH
 

@@ -106,13 +106,11 @@ fn class_sort(owner: Option<usize>) -> Sort
 fn variable(
     alloc: Global,
     world: &World<'_>,
-    here: &Here<'_>,
-    form: Form,
     bound: &[Declared],
     kind: &Ident,
     name: &Ident,
 ) -> Result<Declared, NoMemory>
-    ensures { IfOk result (λ d. d ≡ variable_lem (in_clause world.now here.now form bound.now) kind.now name.now) }
+    ensures { IfOk result (λ d. d ≡ variable_lem world.now bound.now kind.now name.now) }
 {
     Ok(Declared {
         name: Name::new(alloc, name.text.bytes())?,
@@ -140,16 +138,14 @@ fn copied(alloc: Global, bound: &[Declared]) -> Result<Items<Declared>, NoMemory
 pub fn with_variable(
     alloc: Global,
     world: &World<'_>,
-    here: &Here<'_>,
-    form: Form,
     bound: &[Declared],
     kind: &Ident,
     name: &Ident,
 ) -> Result<Items<Declared>, NoMemory>
-    ensures { IfOk result (λ ds. ds ≡ bound.now ++ variable_lem (in_clause world.now here.now form bound.now) kind.now name.now ∷ []) }
+    ensures { IfOk result (λ ds. ds ≡ bound.now ++ variable_lem world.now bound.now kind.now name.now ∷ []) }
 {
     let mut inner = copied(alloc, bound)?;
-    inner.push(variable(alloc, world, here, form, bound, kind, name)?)?;
+    inner.push(variable(alloc, world, bound, kind, name)?)?;
     Ok(inner)
 }
 
@@ -197,15 +193,13 @@ fn expr_of(range: Option<Typed>) -> Option<Boxed<Expr>>
 
 fn quantifier(
     world: &World<'_>,
-    here: &Here<'_>,
-    form: Form,
     bound: &[Declared],
     all: bool,
     kind: &Ident,
     range: Option<Typed>,
     body: Typed,
 ) -> Quant
-    ensures { result ≡ quantifier_lem (in_clause world.now here.now form bound.now) all kind.now range body }
+    ensures { result ≡ quantifier_lem world.now bound.now all kind.now range body }
 {
     Quant {
         all,
@@ -238,7 +232,7 @@ fn quantified(
     match earlier(outer, wants(Sort::Flag, &body)) {
         Some(fault) => Ok(Err(fault)),
         None => {
-            let expr = quantifier(world, here, form, bound, all, kind, range, body);
+            let expr = quantifier(world, bound, all, kind, range, body);
             make_typed(alloc, at, Sort::Flag, Expr::Quant(expr))
         }
     }
@@ -259,7 +253,6 @@ fn link_fault(owner: usize, field: &Ident, slot: Option<Slot>) -> Option<Fault>
 }
 
 /// The fault of the fields of a reach.
-
 fn links_fault(world: &World<'_>, owner: usize, fields: &[Ident]) -> Option<Fault>
     ensures { result ≡ soonest (links_faults world.now owner fields.now) }
 {
