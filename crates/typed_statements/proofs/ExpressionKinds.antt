@@ -165,7 +165,7 @@ deeper (suc (suc (suc (suc (suc n))))) few is = absurd (omega arith)
 small : (n : ℕ) → n ≤ 4 → byte n ≡ n
 small n few = omega arith
 
-variable_at : (sc : Scope) (k : Around) (kind i : Ident) (c : ℕ) → Agrees sc k → place_in sc.world.classes 0 kind.text ≡ Some c → BoundAt (with_bound k (byte c)) (variable sc kind i)
+variable_at : (sc : Scope) (k : Around) (kind i : Ident) (c : ℕ) → Agrees sc k → place_in sc.world.classes 0 kind.text ≡ Some c → BoundAt (with_bound k (byte c)) (variable sc.world sc.bound kind i)
 variable_at sc k kind i c agrees is =
     record {
       owner = c;
@@ -173,7 +173,7 @@ variable_at sc k kind i c agrees is =
       at = ap (slice_get (k.bound ++ byte c ∷ [])) (small (length sc.bound) agrees.few ∙ sym agrees.depth) ∙ last_one k.bound (byte c);
     }
 
-variables_at : (sc : Scope) (k : Around) (kind i : Ident) (c j : ℕ) (d : Declared) → Agrees sc k → place_in sc.world.classes 0 kind.text ≡ Some c → (slice_get sc.bound j ≡ Some d) ⊎ (d ≡ variable sc kind i)
+variables_at : (sc : Scope) (k : Around) (kind i : Ident) (c j : ℕ) (d : Declared) → Agrees sc k → place_in sc.world.classes 0 kind.text ≡ Some c → (slice_get sc.bound j ≡ Some d) ⊎ (d ≡ variable sc.world sc.bound kind i)
     → BoundAt (with_bound k (byte c)) d
 variables_at sc k kind i c j d agrees is (inl before) =
     let h = agrees.bound j d before in record { owner = h.owner; is = h.is; at = kept k.bound (byte c ∷ []) (byte d.number) (byte h.owner) h.at }
@@ -190,9 +190,9 @@ inner_agrees sc k kind i c agrees is shallow =
       params = λ j s within. let h = agrees.params j s within in record { at = h.at; fixed = h.fixed };
       held = λ j d within. let h = agrees.held j d within in record { at = h.at; fixed = h.fixed };
       result = agrees.result;
-      bound = λ j d within. variables_at sc k kind i c j d agrees is (grown sc.bound (variable sc kind i) j d within);
-      depth = length-append k.bound (byte c ∷ []) ∙ ap (λ n. n + 1) agrees.depth ∙ sym (length-append sc.bound (variable sc kind i ∷ []));
-      few = let P : ℕ → Type 0 = λ n. n ≤ 4 in subst P (sym (length-append sc.bound (variable sc kind i ∷ []))) (deeper (length sc.bound) agrees.few shallow);
+      bound = λ j d within. variables_at sc k kind i c j d agrees is (grown sc.bound (variable sc.world sc.bound kind i) j d within);
+      depth = length-append k.bound (byte c ∷ []) ∙ ap (λ n. n + 1) agrees.depth ∙ sym (length-append sc.bound (variable sc.world sc.bound kind i ∷ []));
+      few = let P : ℕ → Type 0 = λ n. n ≤ 4 in subst P (sym (length-append sc.bound (variable sc.world sc.bound kind i ∷ []))) (deeper (length sc.bound) agrees.few shallow);
     }
 
 four : (a b c d : Bool) → a ≡ true → b ≡ true → c ≡ true → d ≡ true → (a && b && c && d) ≡ true
@@ -219,11 +219,11 @@ range_fits k (Some r) h quiet = wanted_suits Flag r k refl h quiet
 
 -- a quantifier of no fault, whose parts have their kinds inside it
 quantifier_sort : (sc : Scope) (k : Around) (at : ℕ) (all : Bool) (kind i : Ident) (range : Option Typed) (body : Typed) (c : ℕ) → Agrees sc k → place_in sc.world.classes 0 kind.text ≡ Some c → is_clause sc.form ≡ true
-    → RangeIs (with_bound k (byte c)) range → range_faults range ≡ [] → HasSort (with_bound k (byte c)) body → wants Flag body ≡ [] → HasSort k (typed at Flag (e.Quant (quantifier sc all kind range body)))
+    → RangeIs (with_bound k (byte c)) range → range_faults range ≡ [] → HasSort (with_bound k (byte c)) body → wants Flag body ≡ [] → HasSort k (typed at Flag (e.Quant (quantifier sc.world sc.bound all kind range body)))
 quantifier_sort sc k at all kind i range body c agrees is clause of_range range_none of_body body_none =
     let class_is : byte (unwrap_or (place_in sc.world.classes 0 kind.text) 0) ≡ byte c = ap (λ o. byte (unwrap_or o 0)) is in
     record {
-      sort = sort_quant (quantifier sc all kind range body) k
+      sort = sort_quant (quantifier sc.world sc.bound all kind range body) k
           ∙ ap
           (λ n.
           in_clause_form k.form
