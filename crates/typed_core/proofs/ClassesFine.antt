@@ -1,10 +1,9 @@
 -- The classes of a text that stand.
-use Rattle.std.proofs.Common.{◌≡◌, ◌≢◌, ◌≤◌, ◌<◌, ◌+◌, ℕ, zero, suc, Bool, true, false, List, [], ◌∷◌, ◌++◌, Option, None, Some, length, refl, ap, sym, ◌∙◌, subst, arith, append_assoc}
-use Rattle.std.specs.Prelude.{map, slice_get, option_map, count_by, not, ◌==◌, ◌&&◌}
-use Rattle.std.specs.List.{list_all}
+use Rattle.std.proofs.Common.{◌≡◌, ◌≤◌, ◌<◌, ◌+◌, ℕ, true, List, [], ◌∷◌, ◌++◌, Some, length, refl, ap, sym, ◌∙◌, subst, arith, append_assoc}
+use Rattle.std.specs.Prelude.{slice_get, option_map, count_by, not, ◌==◌}
 use Rattle.std.proofs.lemmas.Option.{slice_get-map}
 use Rattle.std.proofs.lemmas.List.{length-map, length-append}
-use Rattle.java_tree.specs.Trees.{Class, Classes, Part}
+use Rattle.java_tree.specs.Trees.{Class, Classes}
 use Rattle.taco_unit.specs.declared.unit.FieldDef.{FieldDef}
 use Rattle.taco_unit.specs.declared.unit.MethodDef.{MethodDef}
 use Rattle.taco_unit.specs.Parts.{Parts}
@@ -16,7 +15,7 @@ use Rattle.declared_names.specs.declared.fault.Many.TheVariants as many
 use Rattle.declared_names.specs.declared.fault.Cause.TheVariants.{Unknown, Twice, TooMany}
 use Rattle.declared_names.specs.declared.world.World.{World}
 use Rattle.declared_names.specs.Faults.{check}
-use Rattle.declared_names.specs.Seen.{Seen, Stands, Faulty, over, over_two, beside}
+use Rattle.declared_names.specs.Seen.{Seen, Stands, Faulty, over_two}
 use Rattle.declared_names.specs.Lookups.{place_in}
 use Rattle.typed_statements.specs.Modifiers.{modifier_faults}
 use Rattle.typed_statements.specs.Heads.{word_faults, next, class_names, is_default, with_parts, with_classes}
@@ -27,9 +26,9 @@ use Rattle.typed_core.specs.declared.members.Built.{Built}
 use Rattle.typed_core.specs.declared.members.ClassPart.{ClassPart}
 use Rattle.typed_core.specs.Members.{is_first, no_members, counted_parts, seen_parts, class_faults, fresh_class, seen_class, with_class, seen_classes}
 use Rattle.typed_core.proofs.Each.{Each, each_push, is_here}
-use Rattle.typed_core.proofs.Growth.{After, after_trans, after_parts, after_classes, Even, even_parts}
+use Rattle.typed_core.proofs.Growth.{After, after_classes, Even, even_parts}
 use Rattle.typed_core.proofs.Totals.{Whole, FieldFine, MethodFine, Totals, below_limit, next_is}
-use Rattle.typed_core.proofs.PartsFine.{Invariants, PartsFine, parts_fine}
+use Rattle.typed_core.proofs.PartsFine.{PartsFine, parts_fine}
 
 -- where the second part is looked at only where the first stands, and with it
 on_then_with : {A B C : Type 0} (P : A → Type 0) (R : A → B → Type 0) (Q : C → Type 0) (s : Seen A) (t : Seen B) (go : A → B → Seen C) → OnStands s P → ((x : A) → P x → OnStands t (R x))

@@ -1,7 +1,6 @@
 -- Clauses without a fault are conditions.
-use Rattle.std.proofs.Common.{◌≡◌, ◌≤◌, ◌<◌, ◌+◌, ◌-◌, ◌^◌, ℕ, Bool, true, false, List, [], ◌∷◌, ◌++◌, Option, None, Some, length, refl, ap, sym, ◌∙◌, subst, arith}
-use Rattle.std.specs.Prelude.{not, ◌==◌, min}
-use Rattle.std.specs.List.{list_all}
+use Rattle.std.proofs.Common.{◌≡◌, ◌≤◌, ◌+◌, ℕ, Bool, true, false, List, [], ◌∷◌, ◌++◌, length, refl, ap, sym, ◌∙◌, subst, arith}
+use Rattle.std.specs.Prelude.{not, ◌==◌}
 use Rattle.std.proofs.lemmas.List.{length-append}
 use Rattle.java_tree.specs.Trees.{Expr as Tree, Clause as ClauseTree, needs, gives}
 use Rattle.taco_unit.specs.declared.unit.Clause.{Clause}
@@ -9,14 +8,13 @@ use Rattle.taco_unit.specs.Kinds.{Around, is_condition}
 use Rattle.taco_unit.specs.Well.{are_conditions}
 use Rattle.declared_names.specs.declared.fault.Many.TheVariants as many
 use Rattle.declared_names.specs.declared.fault.Cause.TheVariants.{TooMany}
-use Rattle.declared_names.specs.declared.sort.Sort.{Sort}
 use Rattle.declared_names.specs.declared.sort.Sort.TheVariants.{Flag}
 use Rattle.typed_forms.specs.declared.typed.Typed.{Typed}
 use Rattle.declared_names.specs.declared.world.World.{World}
 use Rattle.declared_names.specs.declared.world.Here.{Here}
 use Rattle.declared_names.specs.declared.world.Form.{Form}
 use Rattle.declared_names.specs.declared.world.Form.TheVariants as form
-use Rattle.declared_names.specs.Seen.{Seen, Stands, over, over_two, unless, beside}
+use Rattle.declared_names.specs.Seen.{Seen, Stands, over, over_two, beside}
 use Rattle.typed_forms.specs.Operators.{wants}
 use Rattle.declared_names.specs.Lookups.{in_clause}
 use Rattle.typed_expressions.specs.Expressions.{seen}

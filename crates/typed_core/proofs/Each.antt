@@ -1,6 +1,6 @@
 -- Lists that go together, place by place; first places.
-use Rattle.std.proofs.Common.{◌≡◌, ◌≢◌, ◌≤◌, ◌<◌, ◌+◌, ℕ, zero, suc, Bool, true, false, List, [], ◌∷◌, ◌++◌, Option, None, Some, length, cond, refl, ap, sym, ◌∙◌, subst, arith, inl, inr, get_or, lt-ltb, eq-eqb}
-use Rattle.std.specs.Prelude.{slice_get, position, AllPairs, map, option_map, bytes_eq, ◌==◌, ◌&&◌, nat_lt, not, is_some, ◌⊎◌, count_by}
+use Rattle.std.proofs.Common.{◌≡◌, ◌≤◌, ◌<◌, ◌+◌, ℕ, zero, suc, Bool, true, false, List, [], ◌∷◌, ◌++◌, Option, None, Some, length, cond, refl, ap, sym, ◌∙◌, subst, arith, inl, inr, get_or, lt-ltb, eq-eqb}
+use Rattle.std.specs.Prelude.{slice_get, position, AllPairs, bytes_eq, ◌==◌, nat_lt, ◌⊎◌}
 use Rattle.std.specs.List.{position_or_len}
 use Rattle.std.proofs.lemmas.Option.{slice_get_within, slice_get-get_or, get_or_from_slice_get}
 use Rattle.std.proofs.lemmas.Bool.{eqb-true, ltb-false}
@@ -8,11 +8,9 @@ use Rattle.std.proofs.lemmas.Bool.Decides.{Decides-ltb}
 use Rattle.std.proofs.lemmas.List.Sums.{fails_before_first}
 use Rattle.std.proofs.lemmas.Slice.Eq.{bytes_eq-Decides}
 use Rattle.std.proofs.lemmas.List.{length-append}
-use Rattle.std.proofs.lemmas.List.Quantifiers.{position-Some}
 use Rattle.declared_names.specs.Lookups.{is_key, place_in}
 use Rattle.typed_statements.proofs.Agrees.{kept, last_one}
-use Rattle.typed_statements.proofs.CallKinds.{both_of, left_of, right_of}
-use Rattle.typed_statements.proofs.Fitting.{Before}
+use Rattle.typed_statements.proofs.CallKinds.{both_of}
 use Rattle.typed_core.specs.Members.{is_first}
 
 -- at each place of the first stands one of the second that goes with it

@@ -1,12 +1,12 @@
 -- What is declared grows: later declarations stand behind earlier ones.
-use Rattle.std.proofs.Common.{◌≡◌, ◌≤◌, ◌<◌, ◌+◌, ℕ, Bool, List, [], ◌∷◌, ◌++◌, length, refl, ap, sym, ◌∙◌}
+use Rattle.std.proofs.Common.{◌≡◌, ℕ, Bool, List, [], ◌∷◌, ◌++◌, refl, ap, sym, ◌∙◌}
 use Rattle.std.specs.Prelude.{map}
 use Rattle.std.proofs.lemmas.List.{map-append}
 use Rattle.java_tree.specs.Trees.{Part, invariant, field, method, Classes}
 use Rattle.declared_names.specs.declared.world.World.{World}
 use Rattle.declared_names.specs.declared.world.FieldKnown.{FieldKnown}
 use Rattle.declared_names.specs.declared.world.MethodKnown.{MethodKnown}
-use Rattle.typed_statements.specs.Heads.{next, field_known, method_known, with_field, with_method, with_part, with_parts, with_classes, is_default}
+use Rattle.typed_statements.specs.Heads.{next, field_known, method_known, with_part, with_parts, with_classes, is_default}
 use Rattle.typed_statements.proofs.Fitting.{Before, before_refl, before_trans, before_one}
 
 -- the fields and methods of one come first in the other

@@ -1,6 +1,6 @@
 -- A method without a fault is well in the unit, and so is an invariant.
-use Rattle.std.proofs.Common.{◌≡◌, ◌≤◌, ◌<◌, ◌+◌, ℕ, Bool, true, false, List, [], ◌∷◌, ◌++◌, Option, None, Some, length, refl, ap, sym, ◌∙◌, subst, arith}
-use Rattle.std.specs.Prelude.{map, option_map, not, min, ◌==◌}
+use Rattle.std.proofs.Common.{◌≡◌, ◌≤◌, ◌<◌, ℕ, Bool, true, List, [], ◌∷◌, ◌++◌, Option, None, Some, length, refl, ap, sym, ◌∙◌, subst, arith}
+use Rattle.std.specs.Prelude.{map, option_map, not, ◌==◌}
 use Rattle.std.specs.List.{list_all}
 use Rattle.std.specs.Option.{option_map_or}
 use Rattle.std.proofs.lemmas.List.{length-map}
@@ -10,14 +10,12 @@ use Rattle.java_tree.specs.declared.names.TypeTree.{TypeTree}
 use Rattle.java_tree.specs.Trees.{Expr as Tree, Param, Method}
 use Rattle.taco_unit.specs.declared.kind.Kind.{Kind}
 use Rattle.taco_unit.specs.declared.stmt.Stmt.{Stmt as UnitStmt}
-use Rattle.taco_unit.specs.declared.stmt.Stmt.TheVariants as s
-use Rattle.taco_unit.specs.declared.unit.Clause.{Clause}
 use Rattle.taco_unit.specs.declared.unit.ParamDef.{ParamDef}
 use Rattle.taco_unit.specs.declared.unit.MethodDef.{MethodDef}
 use Rattle.taco_unit.specs.Parts.{Parts}
 use Rattle.taco_unit.specs.Words.{is_word}
 use Rattle.taco_unit.specs.Kinds.{Around, is_kind_of, is_condition}
-use Rattle.taco_unit.specs.Well.{IsWellMethod, around_invariant, around_method, receiver_of, param_kinds}
+use Rattle.taco_unit.specs.Well.{IsWellMethod, around_invariant, around_method, receiver_of}
 use Rattle.declared_names.specs.declared.fault.Fault.{Fault}
 use Rattle.declared_names.specs.declared.fault.Many.TheVariants as many
 use Rattle.declared_names.specs.declared.fault.Cause.TheVariants.{Unknown, Twice, TooMany}
@@ -30,7 +28,7 @@ use Rattle.declared_names.specs.declared.world.MethodKnown.{MethodKnown}
 use Rattle.declared_names.specs.declared.world.Form.{Form}
 use Rattle.declared_names.specs.declared.world.Form.TheVariants as form
 use Rattle.declared_names.specs.Faults.{check}
-use Rattle.declared_names.specs.Seen.{Seen, Stands, over, over_two, beside}
+use Rattle.declared_names.specs.Seen.{Stands, over, over_two}
 use Rattle.declared_names.specs.Lookups.{place_in, in_clause}
 use Rattle.typed_forms.specs.Calls.{byte}
 use Rattle.typed_expressions.specs.Expressions.{seen}
@@ -38,17 +36,16 @@ use Rattle.typed_statements.specs.Kinds.{kind_of, param_def, result_def}
 use Rattle.typed_statements.specs.Modifiers.{marks_of, is_nullable}
 use Rattle.typed_statements.specs.Heads.{Names, type_sort, is_object_type, word_faults, params_faults, param_known, method_known, here_of, here_in}
 use Rattle.typed_statements.specs.Statements.{Ended, seen_body}
-use Rattle.typed_statements.proofs.Stand.{OnStands, on_over, on_over_two, on_beside, nothing_left, nothing_right, passes}
+use Rattle.typed_statements.proofs.Stand.{OnStands, on_over_two, nothing_left, nothing_right, passes}
 use Rattle.typed_statements.proofs.Suits.{is_kind}
 use Rattle.typed_statements.proofs.OperatorKinds.{form_of}
 use Rattle.typed_statements.proofs.Agrees.{Knows}
 use Rattle.typed_statements.proofs.Fitting.{Surrounds, before_refl, all_both, block_fits}
 use Rattle.typed_statements.proofs.BodiesFit.{Done, typed_quiet, type_fixed, typed_in_unit, stmts_fit}
-use Rattle.typed_core.specs.declared.members.Spec.{Spec}
 use Rattle.typed_core.specs.declared.members.Counts.{Counts}
 use Rattle.typed_core.specs.declared.members.Made.{Made}
 use Rattle.typed_core.specs.declared.members.Made.TheVariants as made
-use Rattle.typed_core.specs.Members.{is_first, clause_of, method_def, no_clauses, many_clauses, seen_clauses, result_faults, method_faults}
+use Rattle.typed_core.specs.Members.{is_first, clause_of, method_def, no_clauses, seen_clauses, result_faults, method_faults}
 use Rattle.typed_core.proofs.Parameters.{params_few, params_named, params_fixed, params_there, params_apart}
 use Rattle.typed_core.proofs.Clauses.{no_state, no_state_holds, condition_stands, FineSpec, clauses_fine}
 

@@ -1,6 +1,6 @@
 -- The parameters of a method without a fault: few, of known kinds, and with names of their own.
 use Rattle.std.proofs.Common.{◌≡◌, ◌≢◌, ◌≤◌, ◌<◌, ◌+◌, ℕ, zero, suc, Bool, true, false, List, [], ◌∷◌, ◌++◌, Option, None, Some, length, refl, ap, sym, ◌∙◌, subst, arith}
-use Rattle.std.specs.Prelude.{map, slice_get, option_map, AllPairs, is_none, not, ◌==◌, ◌&&◌}
+use Rattle.std.specs.Prelude.{map, slice_get, AllPairs, is_none, not, ◌==◌}
 use Rattle.std.specs.List.{list_all}
 use Rattle.std.proofs.lemmas.Option.{slice_get-map}
 use Rattle.std.proofs.lemmas.List.{length-append}

@@ -1,8 +1,7 @@
 -- What is reported of members and classes follows from what is reported of their parts.
-use Rattle.std.proofs.Common.{◌≡◌, ℕ, Bool, List, [], ◌∷◌, Result, Ok, refl, ap, ◌∙◌}
-use Rattle.java_tree.specs.Trees.{Clause as ClauseTree, needs, gives, Part, Class, Classes}
+use Rattle.std.proofs.Common.{◌≡◌, ℕ, Bool, List, [], ◌∷◌, Ok, refl, ap, ◌∙◌}
+use Rattle.java_tree.specs.Trees.{Clause as ClauseTree, needs, gives, Part, Classes}
 use Rattle.taco_unit.specs.declared.unit.Clause.{Clause}
-use Rattle.declared_names.specs.declared.fault.Fault.{Fault}
 use Rattle.typed_forms.specs.declared.typed.Typed.{Typed}
 use Rattle.declared_names.specs.declared.world.World.{World}
 use Rattle.declared_names.specs.declared.world.Here.{Here}

@@ -1,17 +1,15 @@
 -- The members of a class that stand.
-use Rattle.std.proofs.Common.{◌≡◌, ◌≤◌, ◌<◌, ◌+◌, ℕ, Bool, true, false, List, [], ◌∷◌, ◌++◌, length, refl, ap, sym, ◌∙◌, subst, arith, append_assoc}
-use Rattle.std.specs.Prelude.{map, option_map, not, ◌==◌, ◌&&◌}
-use Rattle.std.specs.List.{list_all}
+use Rattle.std.proofs.Common.{◌≡◌, ◌≤◌, ◌<◌, ◌+◌, ℕ, Bool, true, List, [], ◌∷◌, ◌++◌, length, refl, ap, sym, ◌∙◌, subst, append_assoc}
+use Rattle.std.specs.Prelude.{map, option_map, not, ◌==◌}
 use Rattle.std.proofs.lemmas.List.{length-append}
 use Rattle.java_tree.specs.declared.names.Ident.{Ident}
 use Rattle.java_tree.specs.declared.names.Modifier.{Modifier}
 use Rattle.java_tree.specs.declared.names.TypeTree.{TypeTree}
-use Rattle.java_tree.specs.Trees.{Expr as Tree, Param, Method, Part, invariant, field, method}
+use Rattle.java_tree.specs.Trees.{Expr as Tree, Method, Part, invariant, field, method}
 use Rattle.taco_unit.specs.declared.unit.Clause.{Clause}
 use Rattle.taco_unit.specs.declared.unit.FieldDef.{FieldDef}
 use Rattle.taco_unit.specs.declared.unit.MethodDef.{MethodDef}
 use Rattle.taco_unit.specs.Parts.{Parts}
-use Rattle.taco_unit.specs.Words.{is_word}
 use Rattle.taco_unit.specs.Kinds.{is_condition}
 use Rattle.taco_unit.specs.Well.{IsWellMethod, around_invariant, are_conditions}
 use Rattle.declared_names.specs.declared.fault.Many.TheVariants as many
@@ -20,7 +18,7 @@ use Rattle.declared_names.specs.declared.world.World.{World}
 use Rattle.declared_names.specs.declared.world.Here.{Here}
 use Rattle.declared_names.specs.declared.world.MethodKnown.{MethodKnown}
 use Rattle.declared_names.specs.declared.world.Form.TheVariants as form
-use Rattle.declared_names.specs.Seen.{Seen, Stands, Faulty, over, over_two, unless, beside}
+use Rattle.declared_names.specs.Seen.{Seen, Stands, Faulty, over, over_two, beside}
 use Rattle.typed_forms.specs.Calls.{byte}
 use Rattle.declared_names.specs.Lookups.{in_clause}
 use Rattle.typed_expressions.specs.Expressions.{seen}
@@ -29,18 +27,17 @@ use Rattle.typed_statements.specs.Heads.{next, field_known, method_known, here_o
 use Rattle.typed_statements.specs.Statements.{seen_body}
 use Rattle.typed_statements.proofs.Stand.{OnStands, on_over, on_over_two_late, on_unless, on_beside, on_then, weaker, passes}
 use Rattle.typed_statements.proofs.CallKinds.{both_of}
-use Rattle.typed_statements.proofs.Fitting.{Before, before_trans, all_both}
+use Rattle.typed_statements.proofs.Fitting.{Before, all_both}
 use Rattle.typed_core.specs.declared.members.Counts.{Counts}
 use Rattle.typed_core.specs.declared.members.Made.{Made}
 use Rattle.typed_core.specs.declared.members.Made.TheVariants as made
 use Rattle.typed_core.specs.declared.members.Members.{Members}
 use Rattle.typed_core.specs.declared.members.Built.{Built}
-use Rattle.typed_core.specs.declared.members.Spec.{Spec}
-use Rattle.typed_core.specs.Members.{clause_of, many_clauses, field_def, field_faults, method_def, method_faults, no_clauses, seen_clauses, seen_method, seen_part, seen_parts, counted, counted_parts, reference_count, with_made}
-use Rattle.typed_core.proofs.Growth.{After, after_trans, after_part, after_parts, Even, even_part}
+use Rattle.typed_core.specs.Members.{clause_of, many_clauses, field_def, field_faults, method_def, method_faults, no_clauses, seen_clauses, seen_part, seen_parts, counted, counted_parts, with_made}
+use Rattle.typed_core.proofs.Growth.{After, after_trans, after_parts, Even, even_part}
 use Rattle.typed_core.proofs.Clauses.{below, next_small}
 use Rattle.typed_core.proofs.Methods.{QuietHead, quiet_head, MadeMethod, method_well, known_params, known_result, invariant_stands}
-use Rattle.typed_core.proofs.Totals.{Whole, FieldFine, MethodFine, Totals, totals_field, totals_method}
+use Rattle.typed_core.proofs.Totals.{Whole, Totals, totals_field, totals_method}
 
 -- what holds in each unit that knows what is declared
 pub for_all : {A : Type 0} (w : World) (P : Parts → A → Type 0) (s : Seen A) → ((u : Parts) → Whole w u → OnStands s (P u)) → OnStands s (λ x. (u : Parts) → Whole w u → P u x)

@@ -1,5 +1,5 @@
 -- What is reported of a text.
-use Rattle.std.proofs.Common.{◌≡◌, ◌≤◌, ◌<◌, ◌+◌, ◌*◌, ℕ, zero, suc, Bool, true, false, List, [], ◌∷◌, ◌++◌, Option, None, Some, Result, Ok, Err, length, refl, ap, sym, ◌∙◌, subst, arith}
+use Rattle.std.proofs.Common.{◌≡◌, ◌≤◌, ◌<◌, ℕ, suc, Bool, true, false, List, [], ◌∷◌, Some, Ok, Err, refl, ap, ◌∙◌, subst, arith}
 use Rattle.std.specs.Prelude.{All, slice_get, nat_lt, if◌then◌else◌}
 use Rattle.std.proofs.lemmas.List.Elements.{All-cons, All-nil}
 use Rattle.std.proofs.lemmas.Bool.{ltb-false}
@@ -10,9 +10,9 @@ use Rattle.taco_unit.specs.Well.{IsWell}
 use Rattle.declared_names.specs.declared.fault.Fault.{Fault}
 use Rattle.declared_names.specs.declared.fault.Cause.{Cause}
 use Rattle.declared_names.specs.declared.fault.Cause.TheVariants as cause
-use Rattle.declared_names.specs.Faults.{key, sooner, least, soonest}
-use Rattle.declared_names.specs.Seen.{Seen, Stands, Faulty, faults, over, told}
-use Rattle.typed_statements.proofs.Stand.{OnStands, stands}
+use Rattle.declared_names.specs.Faults.{key, least, soonest}
+use Rattle.declared_names.specs.Seen.{Seen, Stands, Faulty, over, told}
+use Rattle.typed_statements.proofs.Stand.{stands}
 use Rattle.typed_core.specs.declared.members.Built.{Built}
 use Rattle.typed_core.specs.Members.{unit_of, seen_text, resolved}
 use Rattle.typed_core.specs.Resolved.{by_cause, name_fault, IsReported, Reports, Refuses}

@@ -1,6 +1,6 @@
 -- All fields and methods that are made go with those that are declared.
-use Rattle.std.proofs.Common.{◌≡◌, ◌≤◌, ◌<◌, ◌+◌, ℕ, Bool, true, false, List, [], ◌∷◌, ◌++◌, Option, None, Some, length, cond, refl, ap, sym, ◌∙◌, subst, arith, append_assoc}
-use Rattle.std.specs.Prelude.{map, slice_get, option_map, count_by, sum_by, not, ◌==◌, ◌&&◌, min}
+use Rattle.std.proofs.Common.{◌≡◌, ◌≤◌, ◌<◌, ◌+◌, ℕ, Bool, true, false, List, [], ◌∷◌, ◌++◌, Option, None, Some, length, cond, refl, ap, sym, ◌∙◌, subst, arith}
+use Rattle.std.specs.Prelude.{map, slice_get, option_map, count_by, not, ◌==◌, ◌&&◌}
 use Rattle.std.specs.List.{list_all}
 use Rattle.std.proofs.lemmas.List.{length-map, length-append}
 use Rattle.std.proofs.lemmas.List.Sums.{sum_by-append, sum_by-cons}
@@ -8,14 +8,13 @@ use Rattle.java_tree.specs.declared.names.Ident.{Ident}
 use Rattle.java_tree.specs.declared.names.Modifier.{Modifier}
 use Rattle.java_tree.specs.declared.names.TypeTree.{TypeTree}
 use Rattle.java_tree.specs.declared.names.TypeTree.TheVariants as type
-use Rattle.java_tree.specs.Trees.{Expr as Tree, Param, Method, Part, invariant, field, method}
-use Rattle.taco_unit.specs.declared.unit.Clause.{Clause}
+use Rattle.java_tree.specs.Trees.{Method}
 use Rattle.taco_unit.specs.declared.unit.FieldDef.{FieldDef}
 use Rattle.taco_unit.specs.declared.unit.MethodDef.{MethodDef}
 use Rattle.taco_unit.specs.Parts.{Parts}
 use Rattle.taco_unit.specs.Words.{is_word}
-use Rattle.taco_unit.specs.Kinds.{is_kind_of, is_class_kind, is_condition}
-use Rattle.taco_unit.specs.Well.{IsWellMethod, around_invariant, are_conditions}
+use Rattle.taco_unit.specs.Kinds.{is_kind_of, is_class_kind}
+use Rattle.taco_unit.specs.Well.{IsWellMethod}
 use Rattle.declared_names.specs.declared.fault.Fault.{Fault}
 use Rattle.declared_names.specs.declared.fault.Many.TheVariants as many
 use Rattle.declared_names.specs.declared.fault.Cause.TheVariants.{Unknown, Twice, TooMany}
@@ -25,19 +24,16 @@ use Rattle.declared_names.specs.declared.world.ParamKnown.{ParamKnown}
 use Rattle.declared_names.specs.declared.world.ResultKnown.{ResultKnown}
 use Rattle.declared_names.specs.declared.world.MethodKnown.{MethodKnown}
 use Rattle.declared_names.specs.Faults.{check}
-use Rattle.declared_names.specs.Seen.{Seen, Stands, Faulty, over, over_two, unless, beside}
 use Rattle.declared_names.specs.Lookups.{place_in}
 use Rattle.typed_forms.specs.Calls.{byte}
 use Rattle.typed_forms.specs.Clauses.{class_sort}
 use Rattle.typed_statements.specs.Kinds.{kind_of, param_def, result_def}
-use Rattle.typed_statements.specs.Heads.{Names, next, type_sort, is_object_type, typed_faults, word_faults, field_known, method_known, here_of, with_field, with_method}
-use Rattle.typed_statements.specs.Statements.{seen_body}
-use Rattle.typed_statements.proofs.Stand.{OnStands, nothing_left, nothing_right, passes}
+use Rattle.typed_statements.specs.Heads.{Names, next, type_sort, is_object_type, typed_faults, word_faults, field_known, method_known, with_field, with_method}
+use Rattle.typed_statements.proofs.Stand.{nothing_left, nothing_right, passes}
 use Rattle.typed_statements.proofs.Suits.{is_kind}
 use Rattle.typed_statements.proofs.Agrees.{Knows, kept, last_one}
-use Rattle.typed_statements.proofs.CallKinds.{both_of}
 use Rattle.typed_statements.proofs.Fitting.{Before}
-use Rattle.typed_statements.proofs.BodiesFit.{InUnit, typed_quiet, type_fixed, typed_in_unit}
+use Rattle.typed_statements.proofs.BodiesFit.{typed_quiet, type_fixed, typed_in_unit}
 use Rattle.typed_core.specs.declared.members.Counts.{Counts}
 use Rattle.typed_core.specs.Members.{is_first, field_def, field_faults, one_more, reference_count}
 use Rattle.typed_core.proofs.Each.{Each, each_push, is_here}

@@ -1,41 +1,39 @@
 -- A text without a fault stands for a unit that is well.
-use Rattle.std.proofs.Common.{◌≡◌, ◌≢◌, ◌≤◌, ◌<◌, ◌+◌, ℕ, zero, suc, Bool, true, false, List, [], ◌∷◌, ◌++◌, Option, None, Some, length, refl, ap, sym, ◌∙◌, subst, arith, get_or}
-use Rattle.std.specs.Prelude.{map, slice_get, option_map, option_and_then, count_by, ◌==◌, ◌&&◌, bytes_eq, filter, cond, AllPairs}
+use Rattle.std.proofs.Common.{◌≡◌, ◌≢◌, ◌≤◌, ◌<◌, ◌+◌, ℕ, zero, suc, Bool, true, false, List, [], ◌∷◌, Option, None, Some, length, refl, ap, sym, ◌∙◌, subst, arith}
+use Rattle.std.specs.Prelude.{map, slice_get, option_map, ◌==◌, bytes_eq, filter, cond, AllPairs}
 use Rattle.std.specs.List.{range_with_len}
 use Rattle.std.specs.Option.{option_map_or}
 use Rattle.std.proofs.lemmas.Option.{slice_get_within, slice_get-map, get_or_from_slice_get}
 use Rattle.std.proofs.lemmas.Bool.{eqb-true}
 use Rattle.std.proofs.lemmas.List.{length-map}
 use Rattle.std.proofs.lemmas.List.Quantifiers.{position-Some}
-use Rattle.std.proofs.lemmas.Slice.Eq.{bytes_eq-Decides}
 use Rattle.java_tree.specs.declared.names.Ident.{Ident}
 use Rattle.java_tree.specs.Trees.{Class, Classes}
 use Rattle.taco_unit.specs.declared.unit.ClassDef.{ClassDef}
 use Rattle.taco_unit.specs.declared.unit.FieldDef.{FieldDef}
 use Rattle.taco_unit.specs.declared.unit.MethodDef.{MethodDef}
-use Rattle.taco_unit.specs.Parts.{Parts}
 use Rattle.taco_unit.specs.Words.{is_word}
-use Rattle.taco_unit.specs.Well.{IsWell, IsWellClass, IsWellField, IsWellMethod, fields_of, methods_of}
+use Rattle.taco_unit.specs.Well.{IsWell, IsWellClass, IsWellField, IsWellMethod}
 use Rattle.declared_names.specs.declared.world.World.{World}
 use Rattle.declared_names.specs.declared.world.Slot.{Slot}
 use Rattle.declared_names.specs.declared.world.FieldKnown.{FieldKnown}
 use Rattle.declared_names.specs.declared.world.MethodKnown.{MethodKnown}
 use Rattle.declared_names.specs.Seen.{Stands}
-use Rattle.declared_names.specs.Lookups.{is_key, place_in, field_slot, slot, method_at, method_of}
+use Rattle.declared_names.specs.Lookups.{is_key, place_in, field_slot, slot, method_at}
 use Rattle.typed_forms.specs.Calls.{byte}
 use Rattle.typed_statements.specs.Kinds.{kind_of}
-use Rattle.typed_statements.specs.Heads.{class_names, bare_world, with_classes, world_of}
+use Rattle.typed_statements.specs.Heads.{class_names, bare_world, world_of}
 use Rattle.typed_statements.proofs.Stand.{OnStands, weaker}
 use Rattle.typed_statements.proofs.Suits.{is_kind}
 use Rattle.typed_statements.proofs.Agrees.{FieldAt, MethodAt, Knows, chained, mapped}
-use Rattle.typed_statements.proofs.CallKinds.{left_of, right_of}
+use Rattle.typed_statements.proofs.CallKinds.{left_of}
 use Rattle.typed_core.specs.declared.members.Built.{Built}
 use Rattle.typed_core.specs.declared.members.ClassPart.{ClassPart}
-use Rattle.typed_core.specs.Members.{field_def, numbers_of, class_def, class_defs, unit_of, nothing_built, no_counts, seen_classes, seen_text}
-use Rattle.typed_core.proofs.Each.{Each, each_none, each_back, apart_from}
-use Rattle.typed_core.proofs.Growth.{After, after_classes, Even, even_classes}
+use Rattle.typed_core.specs.Members.{numbers_of, class_def, class_defs, unit_of, nothing_built, no_counts, seen_text}
+use Rattle.typed_core.proofs.Each.{each_none, each_back, apart_from}
+use Rattle.typed_core.proofs.Growth.{after_classes, Even, even_classes}
 use Rattle.typed_core.proofs.Totals.{Whole, FieldFine, MethodFine}
-use Rattle.typed_core.proofs.ClassesFine.{ClassFine, SoFar, AllFine, classes_fine}
+use Rattle.typed_core.proofs.ClassesFine.{ClassFine, AllFine, classes_fine}
 
 -- CLASSES OF THE UNIT
 

@@ -1,31 +1,26 @@
 -- Members, classes and the whole text: the unit, or the faults. (Java Language Specification, "Classes"; JML Reference
 -- Manual, "Method Specifications", "Type Specifications".)
-use Rattle.std.specs.Prelude.{ℕ, ◌+◌, ◌==◌, ◌&&◌, Bool, true, false, not, List, [], ◌∷◌, ◌++◌, length, map, cond, Option, None, Some, option_map}
+use Rattle.std.specs.Prelude.{ℕ, ◌+◌, ◌==◌, ◌&&◌, Bool, true, false, not, List, [], ◌∷◌, ◌++◌, map, cond, Option, None, Some, option_map}
 use Rattle.java_tree.specs.declared.names.Ident.{Ident}
 use Rattle.java_tree.specs.declared.names.Modifier.{Modifier}
 use Rattle.java_tree.specs.declared.names.TypeTree.{TypeTree}
-use Rattle.java_tree.specs.Trees.{Expr, Stmts, Clause as ClauseTree, needs, gives, Method, Part, invariant, field, method, Class, Classes}
-use Rattle.taco_unit.specs.declared.kind.Kind.{Kind}
-use Rattle.taco_unit.specs.declared.kind.Kind.TheVariants as kind
+use Rattle.java_tree.specs.Trees.{Clause as ClauseTree, needs, gives, Method, Part, invariant, field, method, Class, Classes}
 use Rattle.taco_unit.specs.declared.stmt.Stmt.{Stmt as UnitStmt}
 use Rattle.taco_unit.specs.declared.stmt.Stmt.TheVariants as s
 use Rattle.taco_unit.specs.declared.unit.Clause.{Clause}
 use Rattle.taco_unit.specs.declared.unit.ClassDef.{ClassDef}
 use Rattle.taco_unit.specs.declared.unit.FieldDef.{FieldDef}
-use Rattle.taco_unit.specs.declared.unit.ParamDef.{ParamDef}
 use Rattle.taco_unit.specs.declared.unit.MethodDef.{MethodDef}
 use Rattle.taco_unit.specs.Parts.{Parts}
 use Rattle.declared_names.specs.declared.fault.Fault.{Fault}
 use Rattle.declared_names.specs.declared.fault.Many.TheVariants as many
 use Rattle.declared_names.specs.declared.fault.Cause.TheVariants.{Twice, TooMany}
 use Rattle.declared_names.specs.declared.sort.Sort.{Sort}
-use Rattle.declared_names.specs.declared.sort.Sort.TheVariants.{Loose, Null, Int, Flag, Object}
+use Rattle.declared_names.specs.declared.sort.Sort.TheVariants.{Flag}
 use Rattle.typed_forms.specs.declared.typed.Typed.{Typed}
 use Rattle.declared_names.specs.declared.world.World.{World}
 use Rattle.declared_names.specs.declared.world.Here.{Here}
 use Rattle.declared_names.specs.declared.world.FieldKnown.{FieldKnown}
-use Rattle.declared_names.specs.declared.world.ParamKnown.{ParamKnown}
-use Rattle.declared_names.specs.declared.world.ResultKnown.{ResultKnown}
 use Rattle.declared_names.specs.declared.world.MethodKnown.{MethodKnown}
 use Rattle.declared_names.specs.declared.world.Form.TheVariants as form
 use Rattle.declared_names.specs.Faults.{check}

@@ -1,6 +1,6 @@
 -- The same meanings, by what is reported of the parts.
-use Rattle.std.specs.Prelude.{ℕ, Bool, List, [], ◌∷◌, ◌++◌, Result}
-use Rattle.java_tree.specs.Trees.{Clause, needs, gives, Part, Class, Classes}
+use Rattle.std.specs.Prelude.{ℕ, Bool, List, [], ◌∷◌, Result}
+use Rattle.java_tree.specs.Trees.{Clause, needs, gives, Part, Classes}
 use Rattle.declared_names.specs.declared.fault.Fault.{Fault}
 use Rattle.declared_names.specs.declared.world.World.{World}
 use Rattle.declared_names.specs.declared.world.Here.{Here}

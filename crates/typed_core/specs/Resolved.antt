@@ -1,7 +1,6 @@
 -- What `resolve` answers.
-use Rattle.std.specs.Prelude.{◌≡◌, ◌≤◌, ℕ, List, Option, Some, Result, Ok, Err, All, slice_get}
+use Rattle.std.specs.Prelude.{◌≡◌, ◌≤◌, ℕ, List, Some, Result, Ok, Err, All, slice_get}
 use Rattle.taco_unit.specs.Parts.{Parts}
-use Rattle.declared_names.specs.declared.fault.Many.{Many}
 use Rattle.declared_names.specs.declared.fault.Fault.{Fault}
 use Rattle.declared_names.specs.declared.fault.Cause.{Cause}
 use Rattle.declared_names.specs.declared.fault.Cause.TheVariants as cause

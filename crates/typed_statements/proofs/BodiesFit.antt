@@ -1,7 +1,6 @@
 -- The statements of a body that stand fit.
 use Rattle.std.proofs.Common.{◌≡◌, ◌≤◌, ◌<◌, ◌+◌, ℕ, zero, suc, Bool, true, false, List, [], ◌∷◌, ◌++◌, Option, None, Some, length, refl, ap, sym, ◌∙◌, subst, arith, lt-ltb, inl, inr}
 use Rattle.std.specs.Prelude.{pos, map, slice_get, option_map, take, drop, ◌&&◌, nat_lt, is_some, ◌⊎◌}
-use Rattle.std.specs.List.{list_all}
 use Rattle.std.proofs.lemmas.Option.{slice_get-map}
 use Rattle.std.proofs.lemmas.Bool.{ltb-false}
 use Rattle.std.proofs.lemmas.List.{length-map, take-append-drop}
@@ -10,8 +9,6 @@ use Rattle.java_tree.specs.declared.names.Modifier.{Modifier}
 use Rattle.java_tree.specs.declared.names.TypeTree.{TypeTree}
 use Rattle.java_tree.specs.declared.names.TypeTree.TheVariants as type
 use Rattle.java_tree.specs.Trees.{Expr as Tree, Decl, Stmt, block, blank, if_only, if_else, loops, gives_back, local, set, step, run, Stmts, done, next}
-use Rattle.taco_unit.specs.declared.expr.Expr.{Expr}
-use Rattle.taco_unit.specs.declared.expr.Expr.TheVariants as e
 use Rattle.taco_unit.specs.declared.stmt.Stmt.{Stmt as UnitStmt}
 use Rattle.taco_unit.specs.declared.stmt.Stmt.TheVariants as s
 use Rattle.taco_unit.specs.Kinds.{Around, Of, sort_of, sort_of_kind, is_condition, is_kind_of}
@@ -21,14 +18,11 @@ use Rattle.taco_unit.proofs.KindForms.{sort_num, sort_flag, sort_null, fitting_s
 use Rattle.declared_names.specs.declared.fault.Cause.TheVariants.{Unknown}
 use Rattle.declared_names.specs.declared.sort.Sort.{Sort}
 use Rattle.declared_names.specs.declared.sort.Sort.TheVariants.{Loose, Null, Int, Flag, Object}
-use Rattle.typed_forms.specs.declared.typed.Typed.{Typed}
-use Rattle.typed_forms.specs.declared.typed.Called.{Called}
 use Rattle.declared_names.specs.declared.world.World.{World}
 use Rattle.declared_names.specs.declared.world.Here.{Here}
 use Rattle.declared_names.specs.declared.world.Declared.{Declared}
 use Rattle.declared_names.specs.declared.world.Form.TheVariants as form
-use Rattle.declared_names.specs.Faults.{check}
-use Rattle.declared_names.specs.Seen.{Seen, Stands, over, over_two, unless, beside}
+use Rattle.declared_names.specs.Seen.{Seen, Stands, over, over_two}
 use Rattle.declared_names.specs.Lookups.{place_in, in_body}
 use Rattle.typed_forms.specs.Operators.{wants}
 use Rattle.typed_forms.specs.Calls.{byte}

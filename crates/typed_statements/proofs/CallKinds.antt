@@ -1,19 +1,14 @@
 -- Names, reads and calls have their kinds.
-use Rattle.std.proofs.Common.{◌≡◌, ℕ, zero, suc, Bool, true, false, List, [], ◌∷◌, ◌++◌, Option, None, Some, length, refl, ap, sym, ◌∙◌, subst, eq-eqb, arith}
-use Rattle.std.specs.Prelude.{map, slice_get, option_map, ◌&&◌, ◌||◌, ◌==◌, not, if◌then◌else◌}
+use Rattle.std.proofs.Common.{◌≡◌, ℕ, Bool, true, false, List, [], ◌∷◌, ◌++◌, Option, None, Some, length, refl, ap, sym, ◌∙◌, eq-eqb, arith}
+use Rattle.std.specs.Prelude.{map, option_map, ◌&&◌, ◌||◌, ◌==◌, not, if◌then◌else◌}
 use Rattle.std.specs.List.{list_all}
-use Rattle.std.specs.Cmp.Lexicographic.{pointwise}
 use Rattle.std.proofs.lemmas.Bool.{eqb-true}
 use Rattle.java_tree.specs.declared.names.Ident.{Ident}
-use Rattle.taco_unit.specs.declared.kind.Kind.{Kind}
 use Rattle.taco_unit.specs.declared.kind.Kind.TheVariants as kind
 use Rattle.taco_unit.specs.declared.expr.Expr.{Expr}
 use Rattle.taco_unit.specs.declared.expr.Expr.TheVariants as e
-use Rattle.taco_unit.specs.declared.expr.Call.{Call, out-Call, roll-Call}
-use Rattle.taco_unit.specs.declared.unit.FieldDef.{FieldDef}
-use Rattle.taco_unit.specs.declared.unit.MethodDef.{MethodDef}
-use Rattle.taco_unit.specs.declared.unit.ParamDef.{ParamDef}
-use Rattle.taco_unit.specs.Kinds.{Around, Sort as UnitSort, Faulty as NoKind, NoValue, NullOnly, Of, suits, where_, sort_of_kind, sort_of_class, field_sort, sort_of, are_arguments, result_sort, is_object_of, in_code}
+use Rattle.taco_unit.specs.declared.expr.Call.{out-Call}
+use Rattle.taco_unit.specs.Kinds.{Around, Sort as UnitSort, NoValue, Of, suits, sort_of_kind, sort_of_class, field_sort, sort_of, are_arguments, result_sort, is_object_of, in_code}
 use Rattle.taco_unit.proofs.KindForms.{sort_local, sort_read, sort_this, sort_of_call, call_form, called_as, is_target_of, sort_call}
 use Rattle.declared_names.specs.declared.fault.Fault.{Fault}
 use Rattle.declared_names.specs.declared.fault.Cause.TheVariants.{Kinds}
@@ -30,11 +25,10 @@ use Rattle.declared_names.specs.declared.world.MethodKnown.{MethodKnown}
 use Rattle.declared_names.specs.declared.world.ParamKnown.{ParamKnown}
 use Rattle.declared_names.specs.declared.world.ResultKnown.{ResultKnown}
 use Rattle.declared_names.specs.Faults.{check}
-use Rattle.declared_names.specs.Seen.{Seen, Stands, Faulty, faulty, over, over_two, unless}
 use Rattle.declared_names.specs.Sorts.{fits}
 use Rattle.declared_names.specs.Lookups.{Scope, field_slot, local_slot, method_of}
-use Rattle.typed_forms.specs.Operators.{typed, wanted}
-use Rattle.typed_forms.specs.Calls.{byte, local_place, field_place, object_field, own_field, place_of_name, named_place, read_of, read_place, value_at, place_value, argument_faults, passed, called, call_to, own_call, own_target, class_call, method_call, object_call, call_value, with_argument}
+use Rattle.typed_forms.specs.Operators.{wanted}
+use Rattle.typed_forms.specs.Calls.{byte, local_place, field_place, object_field, own_field, place_of_name, named_place, read_of, read_place, value_at, place_value, argument_faults, passed, called, call_to, own_call, own_target, class_call, method_call, object_call, call_value}
 use Rattle.typed_statements.specs.Kinds.{kind_of, param_def, result_def}
 use Rattle.typed_statements.proofs.Stand.{OnStands, on_unless, nothing_left, nothing_right, passes}
 use Rattle.typed_statements.proofs.Suits.{as_sort, is_known, is_kind, kind_known, kind_sort, fits_suits, HasSort, both_pass, one_passes}

@@ -1,6 +1,6 @@
 -- An expression that stands has its kind.
 use Rattle.std.proofs.Common.{◌≡◌, ◌≤◌, ◌<◌, ◌+◌, ℕ, zero, suc, Bool, true, false, List, [], ◌∷◌, ◌++◌, Option, None, Some, length, refl, ap, sym, ◌∙◌, subst, eq-eqb, lt-ltb, arith, inl, inr}
-use Rattle.std.specs.Prelude.{map, slice_get, option_map, ◌&&◌, ◌||◌, ◌==◌, not, nat_lt, min, is_some, is_none, ◌⊎◌}
+use Rattle.std.specs.Prelude.{map, slice_get, option_map, ◌&&◌, ◌==◌, not, nat_lt, is_some, is_none, ◌⊎◌}
 use Rattle.std.specs.List.{list_all}
 use Rattle.std.specs.Option.{option_map_or, unwrap_or}
 use Rattle.std.proofs.lemmas.Bool.{eqb-true}
@@ -8,38 +8,34 @@ use Rattle.std.proofs.lemmas.List.{map-append, length-append}
 use Rattle.java_tree.specs.declared.names.Ident.{Ident}
 use Rattle.java_tree.specs.Trees.{Expr as Tree, num, flag, null, this, outcome, make, named, call, read, call_on, paren, negation, minus, bin, old, quant, quant_in, has, size, Exprs, none, also}
 use Rattle.taco_unit.specs.declared.kind.Kind.TheVariants as uk
-use Rattle.taco_unit.specs.declared.expr.Expr.{Expr}
 use Rattle.taco_unit.specs.declared.expr.Expr.TheVariants as e
 use Rattle.taco_unit.specs.Kinds.{Around, Sort as UnitSort, Of, suits, where_, sort_of_kind, sort_of_class, sort_of, past as unit_past, with_bound, in_exit, in_clause as in_clause_form, in_code as in_code_form, is_condition, is_object_of, is_link, has_sort, size_sort, same_kind}
-use Rattle.taco_unit.proofs.KindForms.{sort_num, sort_flag, sort_null, sort_this, sort_result, sort_bound, sort_new, sort_old, sort_quant, sort_has, sort_size, reach_form, sort_of_call, sort_of_reach}
+use Rattle.taco_unit.proofs.KindForms.{sort_num, sort_flag, sort_null, sort_this, sort_result, sort_bound, sort_new, sort_old, sort_quant, sort_has, sort_size, reach_form, sort_of_reach}
 use Rattle.declared_names.specs.declared.fault.Fault.{Fault}
-use Rattle.declared_names.specs.declared.fault.Cause.{Cause}
 use Rattle.declared_names.specs.declared.fault.Cause.TheVariants.{Unknown, Kinds, Twice, TooMany}
 use Rattle.declared_names.specs.declared.fault.Many.TheVariants.{Quantifiers}
 use Rattle.declared_names.specs.declared.sort.Sort.{Sort}
 use Rattle.declared_names.specs.declared.sort.Sort.TheVariants.{Loose, Null, Int, Flag, Object}
 use Rattle.typed_forms.specs.declared.typed.Typed.{Typed}
-use Rattle.typed_forms.specs.declared.typed.Place.{Place}
 use Rattle.typed_forms.specs.declared.typed.Called.{Called}
 use Rattle.typed_forms.specs.declared.typed.Given.{Given}
 use Rattle.typed_forms.specs.declared.typed.Arguments.{Arguments}
 use Rattle.declared_names.specs.declared.world.World.{World}
 use Rattle.declared_names.specs.declared.world.Slot.{Slot}
 use Rattle.declared_names.specs.declared.world.Declared.{Declared}
-use Rattle.declared_names.specs.declared.world.Form.TheVariants as form
 use Rattle.declared_names.specs.Faults.{check, fault}
-use Rattle.declared_names.specs.Seen.{Seen, Stands, Faulty, faulty, over, over_two, unless}
-use Rattle.declared_names.specs.Sorts.{fits, is_object}
-use Rattle.declared_names.specs.Lookups.{Scope, place_in, field_slot, local_slot, declared_slot, slot, method_of}
-use Rattle.typed_forms.specs.Operators.{typed, wanted, wants, literal}
+use Rattle.declared_names.specs.Seen.{Seen, Stands, faulty, over, over_two}
+use Rattle.declared_names.specs.Sorts.{is_object}
+use Rattle.declared_names.specs.Lookups.{Scope, place_in, field_slot, local_slot, declared_slot, method_of}
+use Rattle.typed_forms.specs.Operators.{typed, wants, literal}
 use Rattle.typed_forms.specs.Calls.{byte, place_value, named_value, named_place, class_found, class_of, made, read_place, with_argument, no_arguments, in_code, own_call, class_call, object_call, call_value}
-use Rattle.typed_forms.specs.Clauses.{is_clause, is_exit, past, old_of, this_of, result_of, class_sort, sort_of_class as sort_of_name, variable, with_variable, quantifier_faults, range_faults, quantifier, quantified, link_faults, links_faults, reach_faults, link_number, reached, has_of, size_of}
-use Rattle.typed_expressions.specs.Expressions.{literal_of, bare_name, class_name_of, dotted, own_called, valued, seen, seen_from, seen_call, seen_target}
+use Rattle.typed_forms.specs.Clauses.{is_clause, is_exit, past, old_of, this_of, result_of, class_sort, variable, with_variable, quantifier_faults, range_faults, quantifier, quantified, link_faults, links_faults, reach_faults, link_number, reached, has_of, size_of}
+use Rattle.typed_expressions.specs.Expressions.{literal_of, bare_name, class_name_of, dotted, own_called, valued, seen, seen_from}
 use Rattle.typed_statements.specs.Kinds.{kind_of}
 use Rattle.typed_statements.proofs.Stand.{OnStands, on_over, on_over_late, on_over_two, on_over_two_late, on_unless, nothing_left, nothing_right, passes, stands}
-use Rattle.typed_statements.proofs.Suits.{as_sort, is_known, is_kind, kind_known, kind_sort, same_byte, HasSort, wanted_suits, both_pass, one_passes}
-use Rattle.typed_statements.proofs.OperatorKinds.{form_of, clause_form, code_form, exit_form, operated_sort, negated_sort, minus_sort}
-use Rattle.typed_statements.proofs.Agrees.{FieldAt, LocalAt, BoundAt, Agrees, Knows, declared_at, grown, kept, last_one}
+use Rattle.typed_statements.proofs.Suits.{as_sort, is_known, is_kind, kind_known, kind_sort, same_byte, HasSort, wanted_suits, one_passes}
+use Rattle.typed_statements.proofs.OperatorKinds.{clause_form, code_form, exit_form, operated_sort, negated_sort, minus_sort}
+use Rattle.typed_statements.proofs.Agrees.{BoundAt, Agrees, Knows, declared_at, grown, kept, last_one}
 use Rattle.typed_statements.proofs.CallKinds.{left_of, right_of, both_of, HasPlace, place_sort, named_placed, read_placed, HaveSorts, HasCall, own_call_sort, class_call_sort, object_call_sort, call_value_sort}
 
 -- a class of the unit

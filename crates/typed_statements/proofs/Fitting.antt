@@ -1,25 +1,16 @@
 -- A statement that stands fits.
-use Rattle.std.proofs.Common.{◌≡◌, ◌≤◌, ◌<◌, ◌+◌, ℕ, zero, suc, Bool, true, false, List, [], ◌∷◌, ◌++◌, Option, None, Some, length, refl, ap, sym, ◌∙◌, subst, arith, append_assoc, inl, inr}
-use Rattle.std.specs.Prelude.{map, slice_get, option_map, take, ◌&&◌, nat_lt, is_none, is_some, ◌⊎◌}
+use Rattle.std.proofs.Common.{◌≡◌, ◌≤◌, ◌<◌, ℕ, zero, suc, Bool, true, false, List, [], ◌∷◌, ◌++◌, Option, None, Some, length, refl, ap, sym, ◌∙◌, arith, append_assoc}
+use Rattle.std.specs.Prelude.{map, slice_get, option_map, is_none}
 use Rattle.std.specs.List.{list_all}
 use Rattle.std.proofs.lemmas.Option.{slice_get_within, slice_get-map}
-use Rattle.std.proofs.lemmas.List.{length-map, map-append, length-append}
 use Rattle.std.proofs.lemmas.List.Folds.{list_all-append, list_all-map}
-use Rattle.java_tree.specs.declared.names.Ident.{Ident}
-use Rattle.java_tree.specs.declared.names.Modifier.{Modifier}
-use Rattle.java_tree.specs.declared.names.TypeTree.{TypeTree}
-use Rattle.java_tree.specs.declared.names.TypeTree.TheVariants as type
-use Rattle.java_tree.specs.Trees.{Expr as Tree, num, flag, null, this, outcome, make, named, call, read, call_on, paren, negation, minus, bin, old, quant, quant_in, has, size, Exprs, Decl, Stmt, block, blank, if_only, if_else, loops, gives_back, local, set, step, run, Stmts, done, next}
-use Rattle.taco_unit.specs.declared.kind.Kind.{Kind}
-use Rattle.taco_unit.specs.declared.expr.Expr.{Expr}
-use Rattle.taco_unit.specs.declared.expr.Expr.TheVariants as e
+use Rattle.java_tree.specs.Trees.{Expr as Tree, num, flag, null, this, outcome, make, named, call, read, call_on, paren, negation, minus, bin, old, quant, quant_in, has, size, Decl, Stmt, block, blank, if_only, if_else, loops, gives_back, local, set, step, run, Stmts, done, next}
 use Rattle.taco_unit.specs.declared.stmt.Stmt.{Stmt as UnitStmt}
 use Rattle.taco_unit.specs.declared.stmt.Stmt.TheVariants as s
-use Rattle.taco_unit.specs.Kinds.{Around, Sort as UnitSort, Of, Code, suits, sort_of, sort_of_kind, is_condition, is_kind_of, in_code}
-use Rattle.taco_unit.specs.Bodies.{takes, place_sort as unit_place_sort, is_call, returns, is_fitting}
-use Rattle.taco_unit.proofs.KindForms.{sort_local, sort_read, sort_call, sort_num, sort_flag, sort_null, sort_of_call, fitting_block, fitting_set, fitting_write, fitting_step_local, fitting_step_field, fitting_if, fitting_while, fitting_return, fitting_run}
-use Rattle.declared_names.specs.declared.fault.Fault.{Fault}
-use Rattle.declared_names.specs.declared.fault.Cause.TheVariants.{Unknown, Kinds}
+use Rattle.taco_unit.specs.Kinds.{Around, Of, Code, sort_of, sort_of_kind, is_condition, is_kind_of, in_code}
+use Rattle.taco_unit.specs.Bodies.{takes, is_call, is_fitting}
+use Rattle.taco_unit.proofs.KindForms.{sort_local, sort_read, sort_call, sort_of_call, fitting_block, fitting_set, fitting_write, fitting_step_local, fitting_step_field, fitting_return, fitting_run}
+use Rattle.declared_names.specs.declared.fault.Cause.TheVariants.{Kinds}
 use Rattle.declared_names.specs.declared.sort.Sort.{Sort}
 use Rattle.declared_names.specs.declared.sort.Sort.TheVariants.{Loose, Null, Int, Flag, Object}
 use Rattle.typed_forms.specs.declared.typed.Typed.{Typed}
@@ -32,22 +23,21 @@ use Rattle.declared_names.specs.declared.world.Here.{Here}
 use Rattle.declared_names.specs.declared.world.Declared.{Declared}
 use Rattle.declared_names.specs.declared.world.Form.{Form}
 use Rattle.declared_names.specs.declared.world.Form.TheVariants as form
-use Rattle.declared_names.specs.Faults.{check, fault}
-use Rattle.declared_names.specs.Seen.{Seen, Stands, Faulty, over, over_two, unless, beside}
-use Rattle.declared_names.specs.Lookups.{Scope, place_in, method_of, in_body}
+use Rattle.declared_names.specs.Faults.{fault}
+use Rattle.declared_names.specs.Seen.{Seen, Stands, over, over_two}
+use Rattle.declared_names.specs.Lookups.{Scope, method_of, in_body}
 use Rattle.typed_forms.specs.Operators.{wanted, wants}
 use Rattle.typed_forms.specs.Calls.{byte, value_at, no_arguments, own_call, read_place}
-use Rattle.typed_expressions.specs.Expressions.{seen, seen_from, seen_call, seen_target, own_called, dotted, class_name_of, bare_name}
+use Rattle.typed_expressions.specs.Expressions.{seen, seen_from, seen_call, seen_target, class_name_of, bare_name}
 use Rattle.typed_statements.specs.declared.statements.Piece.{Piece}
 use Rattle.typed_statements.specs.declared.statements.Piece.TheVariants.{One, Many}
 use Rattle.typed_statements.specs.Kinds.{kind_of}
-use Rattle.typed_statements.specs.Modifiers.{modifier_faults, nullness_faults, marks_of}
-use Rattle.typed_statements.specs.Heads.{Names, type_sort, type_faults, typed_faults, is_object_type}
-use Rattle.typed_statements.specs.Statements.{State, Ended, closed, is_full, skipped, as_stmt, as_list, branch, condition_of, assigned, set_of, counted, step_of, run_of, return_of, return_none, returned, first_value, number_of, with_local, local_faults, initial, first_set, seen_decl, seen_decls, seen_local, deeper, many_loops, nothing, seen_stmt, seen_stmts}
-use Rattle.typed_statements.proofs.Stand.{OnStands, on_over, on_over_two, on_unless, on_beside, nothing_left, nothing_right, passes}
-use Rattle.typed_statements.proofs.Suits.{as_sort, is_known, is_kind, kind_known, kind_sort, HasSort, wanted_suits}
+use Rattle.typed_statements.specs.Heads.{type_sort}
+use Rattle.typed_statements.specs.Statements.{State, Ended, closed, is_full, skipped, as_stmt, as_list, condition_of, assigned, set_of, counted, step_of, run_of, return_of, return_none, returned, with_local, seen_decl, seen_decls, deeper, seen_stmt, seen_stmts}
+use Rattle.typed_statements.proofs.Stand.{OnStands, on_over, on_unless}
+use Rattle.typed_statements.proofs.Suits.{is_kind, HasSort, wanted_suits}
 use Rattle.typed_statements.proofs.OperatorKinds.{form_of}
-use Rattle.typed_statements.proofs.Agrees.{Agrees, Knows, LocalAt, grown, kept, last_one}
+use Rattle.typed_statements.proofs.Agrees.{Agrees, Knows, LocalAt, kept}
 use Rattle.typed_statements.proofs.CallKinds.{both_of, left_of, right_of, HasPlace, HasCall, named_placed, read_placed, own_call_sort, HaveSorts}
 use Rattle.typed_statements.proofs.ExpressionKinds.{sorts, sorts_from, dotted_sort}
 

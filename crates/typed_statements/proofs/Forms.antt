@@ -1,21 +1,18 @@
 -- What is reported of a statement follows from what is reported of its parts.
-use Rattle.std.proofs.Common.{◌≡◌, ℕ, Bool, true, false, List, [], ◌∷◌, ◌++◌, Option, None, Some, Result, Ok, Err, refl, ap, sym, ◌∙◌}
+use Rattle.std.proofs.Common.{◌≡◌, ℕ, Bool, true, false, List, [], ◌∷◌, ◌++◌, Option, None, Some, Result, Ok, refl, ap, ◌∙◌}
 use Rattle.std.specs.Prelude.{option_map}
 use Rattle.java_tree.specs.Trees.{Expr, Decl, Stmts, done, next}
 use Rattle.taco_unit.specs.declared.stmt.Stmt.{Stmt as UnitStmt}
 use Rattle.declared_names.specs.declared.fault.Fault.{Fault}
 use Rattle.declared_names.specs.declared.sort.Sort.{Sort}
-use Rattle.typed_forms.specs.declared.typed.Typed.{Typed}
 use Rattle.declared_names.specs.declared.world.World.{World}
 use Rattle.declared_names.specs.declared.world.Here.{Here}
 use Rattle.declared_names.specs.declared.world.Declared.{Declared}
-use Rattle.declared_names.specs.Faults.{check, soonest}
-use Rattle.declared_names.specs.Seen.{Seen, Stands, over, over_two, beside, told, on, on_two}
+use Rattle.declared_names.specs.Seen.{Seen, Stands, over_two, told, on_two}
 use Rattle.declared_names.specs.Lookups.{in_body}
 use Rattle.typed_expressions.specs.Expressions.{seen}
 use Rattle.declared_names.proofs.Told.{told-over, told-over_two, told-beside, told-stands}
-use Rattle.typed_statements.specs.declared.statements.Piece.{Piece}
-use Rattle.typed_statements.specs.Statements.{State, Ended, is_full, as_list, first_set, seen_decl, seen_decls, seen_stmt, seen_stmts, initial, skipped, returned, return_of, return_none}
+use Rattle.typed_statements.specs.Statements.{State, Ended, is_full, as_list, first_set, seen_decl, seen_decls, seen_stmt, seen_stmts, initial, skipped, returned, return_of}
 use Rattle.typed_statements.specs.Reported.{first_reported, return_reported, Turn, turn, skip_told, decls_told, stmts_told}
 
 pub told-first_set : (w : World) (h : Here) (sort : Sort) (a : Option Expr) (n : ℕ) (held : List Declared) → told (first_set w h sort a n held) ≡ first_reported sort n (option_map (λ x. told (seen x (in_body w h held))) a)

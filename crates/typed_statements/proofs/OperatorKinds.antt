@@ -1,5 +1,5 @@
 -- Operators have their kinds.
-use Rattle.std.proofs.Common.{◌≡◌, ℕ, ◌++◌, List, [], Option, None, Some, Bool, true, false, refl, ap, ◌∙◌, sym}
+use Rattle.std.proofs.Common.{◌≡◌, ℕ, ◌++◌, [], Option, None, Some, Bool, true, false, refl, ap, ◌∙◌}
 use Rattle.std.specs.Prelude.{◌&&◌, ◌||◌, neg_ℤ}
 use Rattle.java_tree.specs.declared.expressions.Sign.{Sign}
 use Rattle.java_tree.specs.declared.expressions.Sign.TheVariants as sign
@@ -15,7 +15,7 @@ use Rattle.declared_names.specs.declared.world.Form.{Form}
 use Rattle.declared_names.specs.declared.world.Form.TheVariants as form
 use Rattle.declared_names.specs.Faults.{check}
 use Rattle.typed_forms.specs.Operators.{typed, wants, operand_sort, operand_faults, operated, op_of, result_sort, is_of_code, negated, minus_value, minus_of, literal}
-use Rattle.declared_names.specs.Seen.{Seen, Stands}
+use Rattle.declared_names.specs.Seen.{Seen}
 use Rattle.typed_forms.specs.Clauses.{is_clause, is_exit}
 use Rattle.typed_statements.proofs.Stand.{OnStands, on_unless, on_over, nothing_left, nothing_right, passes}
 use Rattle.typed_statements.proofs.Suits.{as_sort, is_known, HasSort, wanted_suits, compared_alike, both_pass, one_passes}

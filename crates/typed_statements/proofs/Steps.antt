@@ -1,19 +1,16 @@
 -- One equation for each form of statement, where the method is not full.
-use Rattle.std.proofs.Common.{◌≡◌, ℕ, Bool, true, false, List, [], ◌∷◌, ◌++◌, Option, None, Some, refl, ap, ◌∙◌}
+use Rattle.std.proofs.Common.{◌≡◌, ℕ, Bool, true, false, List, [], Option, refl, ap}
 use Rattle.java_tree.specs.declared.names.Modifier.{Modifier}
 use Rattle.java_tree.specs.declared.names.TypeTree.{TypeTree}
 use Rattle.java_tree.specs.Trees.{Expr, Decl, Stmt, block, blank, if_only, if_else, loops, gives_back, local, set, step, run, Stmts}
-use Rattle.taco_unit.specs.declared.stmt.Stmt.TheVariants as s
 use Rattle.declared_names.specs.declared.world.World.{World}
 use Rattle.declared_names.specs.declared.world.Here.{Here}
-use Rattle.declared_names.specs.Seen.{Seen, Stands, over, over_two, beside}
+use Rattle.declared_names.specs.Seen.{Seen, Stands, over, over_two}
 use Rattle.declared_names.specs.Lookups.{in_body}
 use Rattle.typed_expressions.specs.Expressions.{seen, seen_call, seen_target}
 use Rattle.java_tree.specs.declared.statements.StmtTree.TheViews.{the_lemmas as stmt_lemmas}
 use Rattle.declared_names.proofs.Told.{wholes}
-use Rattle.typed_statements.specs.declared.statements.Piece.{Piece}
-use Rattle.typed_statements.specs.declared.statements.Piece.TheVariants.{One}
-use Rattle.typed_statements.specs.Statements.{State, Ended, ended, closed, is_full, skipped, nothing, deeper, block_of, branch_of, if_of, else_of, while_of, seen_stmt, seen_stmts, seen_local, returned, set_of, step_of, run_of}
+use Rattle.typed_statements.specs.Statements.{State, Ended, ended, is_full, skipped, nothing, deeper, block_of, branch_of, if_of, else_of, while_of, seen_stmt, seen_stmts, seen_local, returned, set_of, step_of, run_of}
 
 goes_on : {A : Type 0} (b : Bool) (st : State) (was : Seen A) (ran : Ended A) → b ≡ false → skipped b st was ran ≡ ran
 goes_on true st was ran is = absurd (cc)

@@ -1,6 +1,6 @@
 -- The kinds of expressions, and those of the unit.
-use Rattle.std.proofs.Common.{◌≡◌, ℕ, Bool, true, false, refl, ap, ◌∙◌, eq-eqb, List, []}
-use Rattle.std.specs.Prelude.{◌&&◌, ◌==◌, ◌||◌}
+use Rattle.std.proofs.Common.{◌≡◌, ℕ, Bool, true, false, refl, ap, eq-eqb, []}
+use Rattle.std.specs.Prelude.{◌&&◌, ◌==◌}
 use Rattle.std.proofs.lemmas.Bool.{eqb-true}
 use Rattle.taco_unit.specs.declared.kind.Kind.TheVariants as kind
 use Rattle.taco_unit.specs.Kinds.{Around, Sort as UnitSort, Faulty as NoKind, NullOnly, Of, suits, alike, where_, sort_of}
@@ -8,7 +8,7 @@ use Rattle.declared_names.specs.declared.fault.Cause.TheVariants.{Kinds}
 use Rattle.declared_names.specs.declared.sort.Sort.{Sort}
 use Rattle.declared_names.specs.declared.sort.Sort.TheVariants.{Loose, Null, Int, Flag, Object}
 use Rattle.typed_forms.specs.declared.typed.Typed.{Typed}
-use Rattle.declared_names.specs.Sorts.{fits, is_object}
+use Rattle.declared_names.specs.Sorts.{fits}
 use Rattle.typed_forms.specs.Operators.{wanted, wants}
 use Rattle.typed_forms.specs.Calls.{byte}
 use Rattle.typed_statements.specs.Kinds.{kind_of}

@@ -1,16 +1,16 @@
 -- What is declared in a text: its classes, fields and methods in text order. (Java Language Specification, "Names", "Classes".)
-use Rattle.std.specs.Prelude.{ℕ, ◌+◌, ◌-◌, ◌^◌, min, ◌==◌, Bool, true, false, not, ◌&&◌, List, [], ◌∷◌, ◌++◌, length, map, Option, None, Some, option_map, is_some, is_none}
+use Rattle.std.specs.Prelude.{ℕ, ◌+◌, ◌-◌, ◌^◌, min, ◌==◌, Bool, true, false, not, List, [], ◌∷◌, ◌++◌, length, map, Option, None, option_map, is_some, is_none}
 use Rattle.java_tree.specs.declared.names.Ident.{Ident}
 use Rattle.java_tree.specs.declared.names.Modifier.{Modifier}
 use Rattle.java_tree.specs.declared.names.TypeTree.{TypeTree}
 use Rattle.java_tree.specs.declared.names.TypeTree.TheVariants as type
-use Rattle.java_tree.specs.Trees.{Param, Method, Part, invariant, field, method, Class, Classes}
+use Rattle.java_tree.specs.Trees.{Param, Method, Part, invariant, field, method, Classes}
 use Rattle.taco_unit.specs.Words.{is_word}
 use Rattle.declared_names.specs.declared.fault.Fault.{Fault}
 use Rattle.declared_names.specs.declared.fault.Many.TheVariants.{Params}
 use Rattle.declared_names.specs.declared.fault.Cause.TheVariants.{Unknown, Twice, TooMany}
 use Rattle.declared_names.specs.declared.sort.Sort.{Sort}
-use Rattle.declared_names.specs.declared.sort.Sort.TheVariants.{Loose, Int, Flag, Object}
+use Rattle.declared_names.specs.declared.sort.Sort.TheVariants.{Int, Flag}
 use Rattle.declared_names.specs.declared.world.World.{World}
 use Rattle.declared_names.specs.declared.world.Here.{Here}
 use Rattle.declared_names.specs.declared.world.FieldKnown.{FieldKnown}

@@ -1,4 +1,4 @@
-use Rattle.std.proofs.Common.{◌≡◌, ap, sym, subst, ◌∙◌}
+use Rattle.std.proofs.Common.{ap, sym, subst, ◌∙◌}
 use Rattle.java_tree.specs.Seen.{classes_tree}
 use Rattle.declared_names.specs.Seen.{Stands}
 use Rattle.typed_core.specs.declared.fault.NameFault.{NameFault}

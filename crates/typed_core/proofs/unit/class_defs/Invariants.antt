@@ -1,4 +1,4 @@
-use Rattle.std.proofs.Common.{◌≡◌, ◌≤◌, ◌+◌, ◌++◌, length}
+use Rattle.std.proofs.Common.{◌≡◌, ◌+◌, ◌++◌, length}
 use Rattle.typed_core.specs.Members.{class_defs}
 use Rattle.typed_core.proofs.unit.class_defs.Given as goal
 

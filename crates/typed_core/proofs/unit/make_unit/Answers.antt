@@ -1,4 +1,4 @@
-use Rattle.std.proofs.Common.{◌≡◌, ◌≤◌, length, subst, ℕ, arith}
+use Rattle.std.proofs.Common.{◌≤◌, length, arith}
 use Rattle.typed_core.specs.Members.{class_defs}
 use Rattle.typed_core.proofs.WellUnit.{as_many}
 use Rattle.typed_core.proofs.unit.make_unit.Goals as goal

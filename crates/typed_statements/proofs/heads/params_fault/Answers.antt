@@ -1,6 +1,5 @@
 use Rattle.std.proofs.Common.{◌≡◌, ◌≤◌, ◌<◌, ◌+◌, ℕ, List, [], ◌∷◌, ◌++◌, length, drop, map, ap, sym, ◌∙◌, arith}
 use Rattle.std.proofs.lemmas.List.{drop_all, drop_more}
-use Rattle.java_tree.specs.declared.members.ParamTree.{ParamTree}
 use Rattle.java_tree.specs.Seen.{param_tree}
 use Rattle.declared_names.specs.Faults.{soonest, earlier}
 use Rattle.declared_names.proofs.Told.{next_fault, last_fault, none-earlier}

@@ -1,4 +1,4 @@
-use Rattle.std.proofs.Common.{rules, ◌≡◌, ◌≤◌, OnOk, IfOk, subst, List, [], Ok, length, ap, sym, ◌∙◌, arith, drop}
+use Rattle.std.proofs.Common.{rules, ◌≡◌, ◌≤◌, OnOk, IfOk, subst, List, length, ap, sym, ◌∙◌, arith}
 use Rattle.std.proofs.lemmas.List.{drop_all}
 use Rattle.java_tree.specs.Trees.{Stmt as Tree}
 use Rattle.java_tree.specs.Seen.{stmt_tree, stmt_trees}

@@ -1,10 +1,10 @@
-use Rattle.std.proofs.Common.{◌≡◌, ◌≤◌, ◌<◌, ◌+◌, true, List, [], ◌∷◌, Ok, length, drop, map, ap, sym, ◌∙◌, arith}
+use Rattle.std.proofs.Common.{◌≡◌, ◌≤◌, ◌<◌, ◌+◌, true, List, ◌∷◌, length, drop, map, ap, sym, ◌∙◌, arith}
 use Rattle.std.proofs.lemmas.List.{drop_all, drop_more}
 use Rattle.java_tree.specs.Seen.{decl_tree}
 use Rattle.taco_unit.specs.declared.stmt.Stmt.{Stmt}
 use Rattle.typed_statements.specs.Held.{state_of}
 use Rattle.typed_statements.specs.Statements.{is_full}
-use Rattle.typed_statements.specs.Reported.{Turn, turn, decls_told}
+use Rattle.typed_statements.specs.Reported.{Turn, decls_told}
 use Rattle.typed_statements.proofs.Forms.{decls_full, decls-state, decls-is}
 use Rattle.typed_statements.proofs.statements.declarations.Goals as goal
 
