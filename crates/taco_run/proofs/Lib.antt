@@ -4,3 +4,4 @@ pub mod Joining
 pub mod Formulas
 pub mod Searching
 pub mod Posing
+pub mod Accepted

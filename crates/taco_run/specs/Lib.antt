@@ -10,3 +10,4 @@ pub mod Searches
 pub mod Problems
 pub mod ReplayCommand
 pub mod Replaying
+pub mod PrintedLogs

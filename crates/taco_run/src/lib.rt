@@ -5,6 +5,7 @@
 mod answer;
 mod call;
 mod check;
+mod laws;
 mod outcome;
 mod problems;
 mod proof_command;
@@ -15,6 +16,7 @@ mod texts;
 
 pub use answer::{Answer, Evidence};
 pub use call::{run, run_plain};
+pub use laws::printed_logs_are_accepted;
 pub use taco_report::Status;
 pub use taco_words::{Job, Request, RequestFault, Schedule, Text, request_of};
 
