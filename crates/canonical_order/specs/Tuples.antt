@@ -60,19 +60,6 @@ field_tuples p = tuples_of_links p.scope.objects (links_of p.unit)
 abbrev pub tuples : Posed → List Tuple
 tuples p = root_tuples p ++ field_tuples p
 
--- two values are one
-abbrev pub is_value : Value → Value → Bool
-is_value Null Null = true
-is_value (Obj o) (Obj p) = o == p
-is_value (Num x) (Num y) = int_eq x y
-is_value (Flag a) (Flag b) = same_flag a b
-is_value _ _ = false
-
--- the evaluation gives the value
-abbrev pub gives : Value → Seen → Bool
-gives v (Is u) = is_value u v
-gives v _ = false
-
 -- the tuple occurs in the start: that root, or that field of that object, whose class declares the field, has
 -- that value
 abbrev pub occurs : Posed → Start → Tuple → Bool

@@ -1,6 +1,7 @@
 pub mod Posed
 pub mod Outcomes
 pub mod Heap
+pub mod Closure
 pub mod Eval
 pub mod Exec
 pub mod Start
