@@ -4,6 +4,7 @@ pub mod Lists
 pub mod FieldLaws
 pub mod GivenFields
 pub mod Visiting
+pub mod Closure
 pub mod Reach
 mod Rows
 mod Cases
