@@ -2,5 +2,7 @@ pub mod EvalForms
 pub mod ExecForms
 pub mod Visiting
 pub mod Reach
+mod RowParts
 mod Rows
+mod Judgements
 mod Cases
