@@ -6,5 +6,7 @@ pub mod GivenFields
 pub mod Visiting
 pub mod Closure
 pub mod Reach
+mod RowParts
 mod Rows
+mod Judgements
 mod Cases
