@@ -1,4 +1,4 @@
-ghost use Rattle.std.specs.Prelude.{◌≡◌, ◌≤◌, length, Some};
+ghost use Rattle.std.specs.Prelude.{◌≡◌, ◌≤◌, ◌<◌, length, slice_get, Some};
 ghost use Rattle.heap_core.specs.Posed.{InRange};
 ghost use Rattle.heap_core.specs.Start.{method_of};
 ghost use Rattle.taco_unit.specs.Well.{IsWell};
@@ -33,12 +33,21 @@ impl Model for Problem {
     ghost invariant = { λ p. InRange (record { unit = p.unit; method = p.method; scope = p.scope }) };
 }
 
-/// The method that is judged.
+/// The method of this number.
+fn method_at(unit: &Unit, method: u8) -> &MethodDef
+    requires { method < length unit.now.methods }
+    ensures there { slice_get unit.now.methods method ≡ Some result.now }
+    ensures few { length result.now.params ≤ 8 }
+{
+    &unit.methods.as_slice()[usize::from(method)]
+}
+
+/// The method that is judged: it has at most 8 parameters. Takes no memory.
 pub fn method_in(problem: &Problem) -> &MethodDef
     ensures there { method_of problem.now ≡ Some result.now }
     ensures few { length result.now.params ≤ 8 }
 {
-    &problem.unit.methods.as_slice()[usize::from(problem.method)]
+    method_at(&problem.unit, problem.method)
 }
 
 /// What is so of every problem: its unit is well (names, kinds and numbers of clauses), and its
