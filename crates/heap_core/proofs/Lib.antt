@@ -7,6 +7,7 @@ pub mod Visiting
 pub mod Closure
 pub mod Reach
 mod RowParts
+pub mod Reached
 mod Rows
 mod Judgements
 mod Cases

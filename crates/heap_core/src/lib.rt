@@ -11,7 +11,7 @@ mod operators;
 mod problem;
 mod start;
 mod value;
-mod visit;
+pub mod visit;
 
 pub use fields::{field, grow, read, write};
 pub use judged::{Judged, Part};
