@@ -3,6 +3,9 @@ pub mod ExecForms
 pub mod Lists
 pub mod FieldLaws
 pub mod GivenFields
+mod KindedWidths
+mod KindedForms
+pub mod Kinded
 pub mod Visiting
 pub mod Closure
 pub mod Reach
