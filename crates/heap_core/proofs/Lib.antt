@@ -6,8 +6,10 @@ pub mod GivenFields
 mod KindedWidths
 mod KindedForms
 pub mod Kinded
+pub mod KindedStarts
 pub mod Visiting
 pub mod Closure
 pub mod Reach
 mod Rows
+mod KindedRows
 mod Cases

@@ -1,4 +1,5 @@
 ghost use Rattle.heap_core.specs.Closure.{ClosureIsLeastClosed, RoundsEnd, RoundsOfUnion, RoundsOfSum};
+ghost use Rattle.heap_core.specs.Kinded.{KindsHold, StartsAreAnswered};
 ghost use Rattle.heap_core.specs.Laws.{ReachIsLeastClosed, NoTurnLeft};
 
 /// A law of the definitions: `\reach` is the least set that holds its start, where that is an
@@ -20,4 +21,17 @@ pub fn laws_of_closure()
     ensures end { RoundsEnd }
     ensures union { RoundsOfUnion }
     ensures sum { RoundsOfSum }
+{}
+
+/// A law of the definitions: a clause whose kinds fit, in an environment of these kinds, gives a value
+/// of its kind, Bad or Out. It is Out only where its numbers have too few bits: with enough of them it
+/// has one value, or is Bad, whatever more they have.
+pub fn kinds_hold()
+    ensures { KindsHold }
+{}
+
+/// A law of the definitions: of each start that fits a problem, the invariants and the `requires`
+/// clauses give truth values, Bad or Out, and with enough bits none of them is Out.
+pub fn starts_are_answered()
+    ensures { StartsAreAnswered }
 {}
