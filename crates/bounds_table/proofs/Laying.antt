@@ -42,7 +42,7 @@ pub spare_room : (n : ℕ) → (n ≤ spare n) × (8 * n ≤ spare n - n) × (0 
 spare_room n = room (n == 0) n (eqb_tells n 0)
 
 -- the words at first show the opening state
-pub opening_shown : (p : Posed) (cells : List ℕ) → cells ≡ all_below (tuple_count p) ++ none_of (spare (word_count p)) → opening p ≡ shown p cells (first_view p ∷ [])
+pub opening_shown : (p : Posed) (cells : List ℕ) → cells ≡ opening_words p → opening p ≡ shown p cells (first_view p ∷ [])
 opening_shown p cells e =
     let all = all_below (tuple_count p) in
     let none = none_of (spare (word_count p)) in
