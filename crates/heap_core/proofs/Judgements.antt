@@ -125,6 +125,10 @@ result_before_field = simp (code_forms, exec_forms) refl
 field_is_null : judged (drop true []) (alone (v.Obj 0 ∷ [])) ≡ Breaks (part.NonNull 0 0)
 field_is_null = simp (code_forms, exec_forms) refl
 
+-- a heap is good only where the field is not null
+field_was_null : judged (drop false []) (alone (v.Null ∷ [])) ≡ NotAsked
+field_was_null = refl
+
 -- ## methods that end without `return`: class N { N f() { } }, or int g(), or boolean h()
 abbrev ends : Kind → List Expr → Posed
 ends result gives = unit_of [] [] (method_of (Some (result, false)) gives [] ∷ [])
@@ -177,15 +181,19 @@ lacks_argument = refl
 leaves_before_argument : judged (takes (rises (e.Local 1) ∷ [])) (start [] v.Null (v.Null ∷ v.Num (pos 7) ∷ [])) ≡ Outside
 leaves_before_argument = simp (eval_forms, code_forms, exec_forms) refl
 
--- ## static int f(int x) { x = 1; return x; }, which ensures \result == x
-abbrev assigns : Posed
-assigns =
+-- ## static int f(int x) { x = 1; return x; }
+abbrev assigns : Expr → Posed
+assigns ensured =
     unit_of [] []
-    (static_of (param_of Int false ∷ []) Int [] (e.Bin op.Eq e.Result (e.Local 0) ∷ []) (s.Set 0 (e.Num (pos 1)) ∷ s.Return (Some (e.Local 0)) ∷ []) ∷ [])
+    (static_of (param_of Int false ∷ []) Int [] (ensured ∷ []) (s.Set 0 (e.Num (pos 1)) ∷ s.Return (Some (e.Local 0)) ∷ []) ∷ [])
 
--- in `ensures` a parameter has the value that it had before
-parameter_before : judged assigns (start [] v.Null (v.Num (pos 0) ∷ [])) ≡ Breaks (part.Ensures 1)
+-- `ensures \result == x`: the parameter has the value that it had before
+parameter_before : judged (assigns (e.Bin op.Eq e.Result (e.Local 0))) (start [] v.Null (v.Num (pos 0) ∷ [])) ≡ Breaks (part.Ensures 1)
 parameter_before = simp (eval_forms, code_forms, exec_forms) refl
+
+-- `ensures x + 1 > 0`: with that value the clause leaves the scope
+clause_leaves : judged (assigns (rises (e.Local 0))) (start [] v.Null (v.Num (pos 7) ∷ [])) ≡ Outside
+clause_leaves = simp (eval_forms, code_forms, exec_forms) refl
 
 -- ## static int f(int x) { boolean b; int i; return i; }, which ensures \result == 0
 abbrev declares : Posed

@@ -5,7 +5,6 @@ use Rattle.std.specs.Prelude.{map, length}
 use Rattle.std.specs.List.{range_with_len}
 use Rattle.taco_unit.specs.declared.kind.Kind.{Kind}
 use Rattle.taco_unit.specs.declared.expr.Expr.{Expr}
-use Rattle.taco_unit.specs.declared.expr.Expr.TheVariants as e
 use Rattle.taco_unit.specs.declared.expr.Call.{Call, roll-Call}
 use Rattle.taco_unit.specs.declared.stmt.Stmt.{Stmt}
 use Rattle.taco_unit.specs.declared.unit.Clause.{Clause}

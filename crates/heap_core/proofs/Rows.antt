@@ -155,3 +155,14 @@ too_deep = simp (code_forms, exec_forms) refl
 -- null is looked at before the depth: with no call left, a call on null throws
 null_before_depth : judged (runs (run_on (e.Local 0)) 0) (start (object (v.Null ∷ []) ∷ []) (v.Obj 0) (v.Null ∷ [])) ≡ Breaks part.Thrown
 null_before_depth = simp (code_forms, exec_forms) refl
+
+-- the same with void run(N x) { if (x != null) { x.run(null); } }
+abbrev run_once : Stmt
+run_once = s.If (e.Bin op.Ne (e.Local 0) e.Null) (s.Run (call_on 0 (e.Local 0) (e.Null ∷ []))) (s.Block [])
+
+-- one call is too deep where none may be nested, and not where one may be
+no_call_left : judged (runs run_once 0) (start (object (v.Null ∷ []) ∷ []) (v.Obj 0) (v.Obj 0 ∷ [])) ≡ Outside
+no_call_left = simp (code_forms, exec_forms) refl
+
+one_call_left : judged (runs run_once 1) (start (object (v.Null ∷ []) ∷ []) (v.Obj 0) (v.Obj 0 ∷ [])) ≡ Meets
+one_call_left = simp (code_forms, exec_forms) refl
