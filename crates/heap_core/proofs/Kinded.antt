@@ -17,7 +17,8 @@ use Rattle.taco_unit.specs.declared.expr.Call.{Call}
 use Rattle.taco_unit.specs.declared.expr.Expr.TheVariants as e
 use Rattle.taco_unit.specs.Parts.{Parts}
 use Rattle.taco_unit.specs.Kinds.{Sort, Of, Around, binary_sort, where_, is_object_of, is_link, sort_of_kind, sort_of_class, past, with_bound, in_clause, has_sort, size_sort, sort_of, is_condition}
-use Rattle.taco_unit.proofs.KindForms.{sort_num, sort_flag, sort_null, sort_this, sort_result, sort_local, sort_bound, sort_read, sort_neg, sort_not, sort_bin, sort_quant, sort_old, reach_form, sort_has, sort_size, sort_new, sort_call}
+use Rattle.taco_unit.proofs.KindForms.{sort_num, sort_flag, sort_null, sort_this, sort_result, sort_local, sort_bound, sort_read, sort_neg}
+use Rattle.taco_unit.proofs.KindForms.{sort_not, sort_bin, sort_quant, sort_old, reach_form, sort_has, sort_size, sort_new, sort_call}
 use Rattle.heap_core.specs.declared.value.Value.{Value}
 use Rattle.heap_core.specs.declared.value.Value.TheVariants as v
 use Rattle.heap_core.specs.declared.value.Object.{Object}
@@ -29,7 +30,8 @@ use Rattle.heap_core.specs.Eval.{Env, eval, before, bind, over, instance_of}
 use Rattle.heap_core.specs.Kinded.{is_of_kind, IsKindedHeap, IsKinded, Settles, by_bits, KindsHold}
 use Rattle.heap_core.proofs.EvalForms.{eval_num, eval_flag, eval_null, eval_this, eval_result, eval_local, eval_bound, eval_read, eval_neg, eval_not, eval_bin, eval_quant, eval_old, eval_has, eval_size}
 use Rattle.heap_core.proofs.KindedWidths.{always, number_settles, over_settles}
-use Rattle.heap_core.proofs.KindedForms.{Held, held_as, where_held, in_clause_held, in_exit_held, in_code_held, suited, object_suits, local_held, bound_held, negative_held, opposite_held, as_flag_settles, binary_held, operator_held, read_held, has_held, size_held}
+use Rattle.heap_core.proofs.KindedForms.{Held, held_as, where_held, in_clause_held, in_exit_held, in_code_held, suited, object_suits, local_held}
+use Rattle.heap_core.proofs.KindedForms.{bound_held, negative_held, opposite_held, as_flag_settles, binary_held, operator_held, read_held, has_held, size_held}
 
 -- ## environments
 

@@ -13,7 +13,8 @@ use Rattle.taco_unit.specs.declared.expr.Op.{Op}
 use Rattle.taco_unit.specs.declared.expr.Op.TheVariants as op
 use Rattle.taco_unit.specs.Parts.{Parts}
 use Rattle.taco_unit.specs.Well.{IsWell}
-use Rattle.taco_unit.specs.Kinds.{Sort, Of, NullOnly, Faulty, NoValue, Form, Code, Entry, Exit, Past, same_kind, suits, alike, where_, is_object_of, sort_of_kind, sort_of_class, field_sort, binary_sort, operator_sort, in_clause, in_code, in_exit, has_sort, size_sort}
+use Rattle.taco_unit.specs.Kinds.{Sort, Of, NullOnly, Faulty, NoValue, Form, Code, Entry, Exit, Past, same_kind, suits}
+use Rattle.taco_unit.specs.Kinds.{alike, where_, is_object_of, sort_of_kind, sort_of_class, field_sort, binary_sort, operator_sort, in_clause, in_code, in_exit, has_sort, size_sort}
 use Rattle.heap_core.specs.declared.value.Value.{Value}
 use Rattle.heap_core.specs.declared.value.Value.TheVariants as v
 use Rattle.heap_core.specs.declared.value.Object.{Object}

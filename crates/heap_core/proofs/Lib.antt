@@ -10,6 +10,9 @@ pub mod KindedStarts
 pub mod Visiting
 pub mod Closure
 pub mod Reach
+mod RowParts
+pub mod Reached
 mod Rows
+mod Judgements
 mod KindedRows
 mod Cases

@@ -1,6 +1,6 @@
 ghost use Rattle.heap_core.specs.Closure.{ClosureIsLeastClosed, RoundsEnd, RoundsOfUnion, RoundsOfSum};
 ghost use Rattle.heap_core.specs.Kinded.{KindsHold, StartsAreAnswered};
-ghost use Rattle.heap_core.specs.Laws.{ReachIsLeastClosed, NoTurnLeft};
+ghost use Rattle.heap_core.specs.Laws.{ReachIsLeastClosed, NoTurnLeft, TheRunDecides};
 
 /// A law of the definitions: `\reach` is the least set that holds its start, where that is an
 /// object, and with each object the objects in the named fields.
@@ -11,6 +11,12 @@ pub fn reach_is_least_closed()
 /// A law of the definitions: where no turn is left and the test is true, a loop leaves the scope.
 pub fn no_turn_left()
     ensures { NoTurnLeft }
+{}
+
+/// A law of the definitions: where neither a clause leaves the scope before the run nor the
+/// precondition is missed, the judgement of a start is that of its run.
+pub fn the_run_decides()
+    ensures { TheRunDecides }
 {}
 
 /// Laws of closure over a graph: it is the least closed set, as many rounds as there are numbers below

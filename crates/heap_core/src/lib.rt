@@ -11,13 +11,14 @@ mod operators;
 mod problem;
 mod start;
 mod value;
-mod visit;
+pub mod visit;
 
 pub use fields::{field, grow, read, write};
 pub use judged::{Judged, Part};
 pub use kinds::is_of;
 pub use laws::{
     kinds_hold, laws_of_closure, no_turn_left, reach_is_least_closed, starts_are_answered,
+    the_run_decides,
 };
 pub use numbers::{flag, negative, number, zero_of};
 pub use operators::{operated, opposite};

@@ -24,8 +24,7 @@ use Rattle.heap_core.specs.Exec.{Memory, Ends, Gives, Throws, Leaves, Frame, Cod
 use Rattle.heap_symmetry.specs.Renaming.{IsNaming, value_as, object_as, seen_as, IsRenamed}
 use Rattle.heap_symmetry.proofs.Evaluated.{operated_as, inside_named}
 use Rattle.canonical_order.proofs.Counting.{slice_get-append_left}
-use Rattle.canonical_order.proofs.NumbersLemmas.{set_at}
-use Rattle.canonical_order.proofs.TableMet.{set_apart}
+use Rattle.heap_core.proofs.Lists.{set_at, set_apart}
 
 -- ## what is changed
 
