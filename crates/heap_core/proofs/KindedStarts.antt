@@ -27,7 +27,7 @@ use Rattle.heap_core.specs.Outcomes.{is_out}
 use Rattle.heap_core.specs.Heap.{Heap}
 use Rattle.heap_core.specs.Eval.{Env}
 use Rattle.heap_core.specs.Start.{has_kind, has_field_kind, is_whole, is_receiver, is_argument, method_of, Fits}
-use Rattle.heap_core.specs.Judge.{invariant_env, entry_env, exit_env, values_of, invariants_at, all_invariants, needs_of}
+use Rattle.heap_core.specs.Judge.{invariant_env, entry_env, exit_env, values_of, invariants_at, all_invariants, needs_of, gives_of}
 use Rattle.heap_core.specs.Kinded.{is_of_kind, is_of_field, has_kinds, IsKindedHeap, IsKinded, is_of_sort, Settles, by_bits, is_answer, with_bits, StartsAreAnswered}
 use Rattle.heap_core.proofs.Lists.{all_at, beside_more}
 use Rattle.heap_core.proofs.FieldLaws.{Keeps, kind_kept, whole_kept}
@@ -237,6 +237,20 @@ needs_answered p s well fits = go (method_of p) refl
     go : (m : Option MethodDef) → method_of p ≡ m → IsAnsweredList (λ bits. option_map_or (λ (m : MethodDef). values_of (entry_env (with_bits p bits) s) m.needs) m [])
     go None called = none_answered
     go (Some m) called = clauses_answered (entry_kinded p s m fits called well) m.needs (well.methods p.method m called).needs
+
+-- the `ensures` clauses, where the run gives a result of its kind and a heap that is whole, in which the
+-- objects of the start keep their classes
+pub gives_answered :
+    (p : Posed) (s : Start) (r : Option Value) (heap : Heap) → IsWell p.unit → Fits s p → Keeps s.objects heap
+    → list_all (is_whole p.unit p.scope.ints heap) heap ≡ true
+    → ((m : MethodDef) (k : Kind) → method_of p ≡ Some m → result_kind m ≡ Some k → option_map_or (has_kind p.scope.ints heap k) r false ≡ true)
+    → IsAnsweredList (λ bits. gives_of (with_bits p bits) s r heap)
+gives_answered p s r heap well fits keeps whole given = go (method_of p) refl
+  where
+    go : (m : Option MethodDef) → method_of p ≡ m → IsAnsweredList (λ bits. option_map_or (λ (m : MethodDef). values_of (exit_env (with_bits p bits) s r heap) m.gives) m [])
+    go None called = none_answered
+    go (Some m) called =
+        clauses_answered (exit_kinded p s m fits called r heap well keeps whole (λ k. given m k called)) m.gives (well.methods p.method m called).gives
 
 pub starts_are_answered : StartsAreAnswered
 starts_are_answered p s well fits =
