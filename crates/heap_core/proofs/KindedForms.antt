@@ -1,6 +1,6 @@
 -- What the sorts of the operands say of the values that an operator, a read or a `\reach` looks at.
-use Rattle.std.proofs.Common.{◌≡◌, ℕ, Bool, true, false, not, ◌&&◌, cond, eqb, List, Option, Some, None, refl, sym, ◌∙◌, ap, subst, inl, inr}
-use Rattle.std.specs.Prelude.{◌≢◌, ◌==◌, ℤ, pos, ◌+ℤ◌, ◌-ℤ◌, ◌*ℤ◌, neg_ℤ, int_lt, int_le, IsTrue, slice_get, count_by}
+use Rattle.std.proofs.Common.{◌≡◌, ℕ, Bool, true, false, not, ◌&&◌, cond, List, Option, Some, None, refl, sym, ◌∙◌, ap, subst}
+use Rattle.std.specs.Prelude.{◌≢◌, ◌==◌, ℤ, pos, ◌+ℤ◌, ◌-ℤ◌, ◌*ℤ◌, neg_ℤ, int_lt, int_le, slice_get, count_by}
 use Rattle.std.specs.List.{range_with_len}
 use Rattle.std.specs.Option.{option_map_or}
 use Rattle.std.specs.Cmp.Lexicographic.{pointwise}
@@ -13,16 +13,17 @@ use Rattle.taco_unit.specs.declared.expr.Op.{Op}
 use Rattle.taco_unit.specs.declared.expr.Op.TheVariants as op
 use Rattle.taco_unit.specs.Parts.{Parts}
 use Rattle.taco_unit.specs.Well.{IsWell}
-use Rattle.taco_unit.specs.Kinds.{Sort, Of, NullOnly, Faulty, NoValue, Form, Code, Entry, Exit, Past, same_kind, suits, alike, where_, is_object_of, sort_of_kind, sort_of_class, field_sort, binary_sort, operator_sort, in_clause, in_code, in_exit, has_sort, size_sort}
+use Rattle.taco_unit.specs.Kinds.{Sort, Of, NullOnly, Faulty, NoValue, Form, Code, Entry, Exit, Past, same_kind, suits}
+use Rattle.taco_unit.specs.Kinds.{alike, where_, is_object_of, sort_of_kind, sort_of_class, field_sort, binary_sort, operator_sort, in_clause, in_code, in_exit, has_sort, size_sort}
 use Rattle.heap_core.specs.declared.value.Value.{Value}
 use Rattle.heap_core.specs.declared.value.Value.TheVariants as v
 use Rattle.heap_core.specs.declared.value.Object.{Object}
 use Rattle.heap_core.specs.declared.value.Seen.{Seen}
 use Rattle.heap_core.specs.declared.value.Seen.TheVariants.{Is, Bad, Out}
-use Rattle.heap_core.specs.Outcomes.{number, flag, value_in, with_value, on_number, on_flag, on_numbers, as_flag, opposite, negative, same, equivalent, operated}
-use Rattle.heap_core.specs.Heap.{Heap, is_of, field, cell_of}
+use Rattle.heap_core.specs.Outcomes.{number, flag, value_in, with_value, on_number, on_flag, on_numbers, as_flag, opposite, negative, same, equivalent}
+use Rattle.heap_core.specs.Heap.{Heap, field, cell_of}
 use Rattle.heap_core.specs.Eval.{Env, binary, reached, holds, has, size}
-use Rattle.heap_core.specs.Kinded.{is_of_kind, is_of_field, has_kinds, IsKindedHeap, has_value, is_of_sort, Settles}
+use Rattle.heap_core.specs.Kinded.{is_of_kind, is_of_field, IsKindedHeap, has_value, is_of_sort, Settles}
 use Rattle.heap_core.proofs.Lists.{beside}
 use Rattle.heap_core.proofs.GivenFields.{field_at}
 use Rattle.heap_core.proofs.KindedWidths.{always, settles_as, number_settles, then_settles, both_settle}
@@ -110,7 +111,9 @@ local_held {all} ks vs i fit = go (slice_get ks i) refl
         let found = beside (is_of_kind all) ks vs i k fit is in
         held_as refl (λ bits. ap value_in found.1) (record { settles = λ ok. always (Is found.0) found.2 })
 
-pub bound_held : {all : Heap} (cs : List ℕ) (vs : List Value) (i : ℕ) → pointwise (λ c. is_of_kind all (Ref c)) cs vs ≡ true → Held all (sort_of_class (slice_get cs i)) (λ bits. value_in (slice_get vs i))
+pub bound_held :
+    {all : Heap} (cs : List ℕ) (vs : List Value) (i : ℕ) → pointwise (λ c. is_of_kind all (Ref c)) cs vs ≡ true
+    → Held all (sort_of_class (slice_get cs i)) (λ bits. value_in (slice_get vs i))
 bound_held {all} cs vs i fit = go (slice_get cs i) refl
   where
     go : (c : Option ℕ) → slice_get cs i ≡ c → Held all (sort_of_class c) (λ bits. value_in (slice_get vs i))
@@ -134,7 +137,9 @@ flag_then k h v.Null is = absurd (false≢true is)
 flag_then k h (v.Obj o) is = absurd (false≢true is)
 flag_then k h (v.Num z) is = absurd (false≢true is)
 
-numbers_then : {all : Heap} {u : Sort} (k : ℕ → ℤ → ℤ → Seen) → ((x y : ℤ) → Settles all u (λ bits. k bits x y)) → (x y : Value) → is_of_kind all Int x ≡ true → is_of_kind all Int y ≡ true → Settles all u (λ bits. on_numbers (k bits) x y)
+numbers_then :
+    {all : Heap} {u : Sort} (k : ℕ → ℤ → ℤ → Seen) → ((x y : ℤ) → Settles all u (λ bits. k bits x y)) → (x y : Value) → is_of_kind all Int x ≡ true
+    → is_of_kind all Int y ≡ true → Settles all u (λ bits. on_numbers (k bits) x y)
 numbers_then k h (v.Num x) (v.Num y) is also = h x y
 numbers_then k h (v.Num x) v.Null is also = absurd (false≢true also)
 numbers_then k h (v.Num x) (v.Obj o) is also = absurd (false≢true also)
@@ -143,11 +148,20 @@ numbers_then k h v.Null y is also = absurd (false≢true is)
 numbers_then k h (v.Obj o) y is also = absurd (false≢true is)
 numbers_then k h (v.Flag b) y is also = absurd (false≢true is)
 
-pub negative_settles : (all : Heap) (x : Value) → is_of_kind all Int x ≡ true → Settles all (Of Int) (λ bits. negative bits x)
+negative_settles : (all : Heap) (x : Value) → is_of_kind all Int x ≡ true → Settles all (Of Int) (λ bits. negative bits x)
 negative_settles all = number_then (λ bits z. number bits (neg_ℤ z)) (λ z. number_settles all (neg_ℤ z))
 
-pub opposite_settles : (all : Heap) (x : Value) → is_of_kind all Flag x ≡ true → Settles all (Of Flag) (λ bits. opposite x)
+opposite_settles : (all : Heap) (x : Value) → is_of_kind all Flag x ≡ true → Settles all (Of Flag) (λ bits. opposite x)
 opposite_settles all = flag_then (λ bits b. flag (not b)) (λ b. always (flag (not b)) refl)
+
+pub negative_held :
+    {all : Heap} {f : ℕ → Seen} (t : Sort) → Held all t f → Held all (where_ (suits Int t) (Of Int)) (λ bits. with_value (f bits) (negative bits))
+negative_held {all} t h = where_held (suits Int t) (λ fine. then_settles (Of Int) negative (suited Int t fine h) (negative_settles all))
+
+pub opposite_held :
+    {all : Heap} {f : ℕ → Seen} (t : Sort) → Held all t f → Held all (where_ (suits Flag t) (Of Flag)) (λ bits. with_value (f bits) opposite)
+opposite_held {all} t h =
+    where_held (suits Flag t) (λ fine. then_settles (Of Flag) (λ bits. opposite) (suited Flag t fine h) (opposite_settles all))
 
 pub as_flag_settles : {all : Heap} {f : ℕ → Seen} → Settles all (Of Flag) f → Settles all (Of Flag) (λ bits. as_flag (f bits))
 as_flag_settles s = then_settles (Of Flag) (λ bits. on_flag flag) s (flag_then (λ bits b. flag b) (λ b. always (flag b) refl))
@@ -179,6 +193,9 @@ same_settles all (Ref c) (v.Obj o) (v.Flag b) is also = absurd (false≢true als
 same_settles all (Ref c) (v.Num z) y is also = absurd (false≢true is)
 same_settles all (Ref c) (v.Flag b) y is also = absurd (false≢true is)
 
+other_settles : (all : Heap) (k : Kind) (x y : Value) → is_of_kind all k x ≡ true → is_of_kind all k y ≡ true → Settles all (Of Flag) (λ bits. with_value (same x y) opposite)
+other_settles all k x y is also = then_settles (Of Flag) (λ bits. opposite) (same_settles all k x y is also) (opposite_settles all)
+
 equivalent_settles : (all : Heap) (x y : Value) → is_of_kind all Flag x ≡ true → is_of_kind all Flag y ≡ true → Settles all (Of Flag) (λ bits. equivalent x y)
 equivalent_settles all (v.Flag x) (v.Flag y) is also = always (equivalent (v.Flag x) (v.Flag y)) refl
 equivalent_settles all (v.Flag x) v.Null is also = absurd (false≢true also)
@@ -189,12 +206,17 @@ equivalent_settles all (v.Obj o) y is also = absurd (false≢true is)
 equivalent_settles all (v.Num z) y is also = absurd (false≢true is)
 
 -- two numbers; two truth values, of which the left one decides first; two values of one kind
-arithmetic : {all : Heap} {u : Sort} {f g : ℕ → Seen} (t s : Sort) (k : ℕ → ℤ → ℤ → Seen) → ((x y : ℤ) → Settles all u (λ bits. k bits x y)) → Held all t f → Held all s g → Held all (where_ (suits Int t && suits Int s) u) (λ bits. with_value (f bits) (λ x. with_value (g bits) (on_numbers (k bits) x)))
+arithmetic :
+    {all : Heap} {u : Sort} {f g : ℕ → Seen} (t s : Sort) (k : ℕ → ℤ → ℤ → Seen) → ((x y : ℤ) → Settles all u (λ bits. k bits x y)) → Held all t f
+    → Held all s g → Held all (where_ (suits Int t && suits Int s) u) (λ bits. with_value (f bits) (λ x. with_value (g bits) (on_numbers (k bits) x)))
 arithmetic t s k each h i = where_held (suits Int t && suits Int s) (λ is.
     let both = and_parts (suits Int t) (suits Int s) is in
     both_settle (Of Int) (λ bits. on_numbers (k bits)) (suited Int t both.0 h) (suited Int s both.1 i) (numbers_then k each))
 
-deciding : {all : Heap} {f g : ℕ → Seen} (t s : Sort) (k : Bool → Seen → Seen) → ((b : Bool) → Settles all (Of Flag) g → Settles all (Of Flag) (λ bits. k b (g bits))) → Held all t f → Held all s g → Held all (where_ (suits Flag t && suits Flag s) (Of Flag)) (λ bits. with_value (f bits) (on_flag (λ b. k b (g bits))))
+deciding :
+    {all : Heap} {f g : ℕ → Seen} (t s : Sort) (k : Bool → Seen → Seen)
+    → ((b : Bool) → Settles all (Of Flag) g → Settles all (Of Flag) (λ bits. k b (g bits))) → Held all t f → Held all s g
+    → Held all (where_ (suits Flag t && suits Flag s) (Of Flag)) (λ bits. with_value (f bits) (on_flag (λ b. k b (g bits))))
 deciding {all} {f} {g} t s k each h i = where_held (suits Flag t && suits Flag s) (λ is.
     let both = and_parts (suits Flag t) (suits Flag s) is in
     then_settles (Of Flag) (λ bits. on_flag (λ b. k b (g bits))) (suited Flag t both.0 h) (flag_then (λ bits b. k b (g bits)) (λ b. each b (suited Flag s both.1 i))))
@@ -216,7 +238,10 @@ one_kind NullOnly NoValue is h i = absurd (false≢true is)
 one_kind Faulty s is h i = absurd (false≢true is)
 one_kind NoValue s is h i = absurd (false≢true is)
 
-comparing : {all : Heap} {f g : ℕ → Seen} (t s : Sort) (k : Value → Value → Seen) → ((l : Kind) (x y : Value) → is_of_kind all l x ≡ true → is_of_kind all l y ≡ true → Settles all (Of Flag) (λ bits. k x y)) → Held all t f → Held all s g → Held all (where_ (alike t s) (Of Flag)) (λ bits. with_value (f bits) (λ x. with_value (g bits) (k x)))
+comparing :
+    {all : Heap} {f g : ℕ → Seen} (t s : Sort) (k : Value → Value → Seen)
+    → ((l : Kind) (x y : Value) → is_of_kind all l x ≡ true → is_of_kind all l y ≡ true → Settles all (Of Flag) (λ bits. k x y)) → Held all t f
+    → Held all s g → Held all (where_ (alike t s) (Of Flag)) (λ bits. with_value (f bits) (λ x. with_value (g bits) (k x)))
 comparing t s k each h i = where_held (alike t s) (λ is.
     let one = one_kind t s is h i in
     both_settle (Of one.kind) (λ bits. k) one.left one.right (each one.kind))
@@ -230,7 +255,7 @@ binary_held op.Le t s h i = arithmetic t s (λ bits x y. flag (int_le x y)) (λ 
 binary_held op.Gt t s h i = arithmetic t s (λ bits x y. flag (int_lt y x)) (λ x y. always (flag (int_lt y x)) refl) h i
 binary_held op.Ge t s h i = arithmetic t s (λ bits x y. flag (int_le y x)) (λ x y. always (flag (int_le y x)) refl) h i
 binary_held {all} op.Eq t s h i = comparing t s same (same_settles all) h i
-binary_held {all} op.Ne t s h i = comparing t s (λ x y. with_value (same x y) opposite) (λ k x y is also. then_settles (Of Flag) (λ bits. opposite) (same_settles all k x y is also) (opposite_settles all)) h i
+binary_held {all} op.Ne t s h i = comparing t s (λ x y. with_value (same x y) opposite) (other_settles all) h i
 binary_held op.And t s h i = deciding t s (λ b z. cond b (as_flag z) (flag false)) (elim [ true ↦ as_flag_settles | false ↦ λ r. always (flag false) refl ]) h i
 binary_held op.Or t s h i = deciding t s (λ b z. cond b (flag true) (as_flag z)) (elim [ true ↦ λ r. always (flag true) refl | false ↦ as_flag_settles ]) h i
 binary_held op.Implies t s h i = deciding t s (λ b z. cond b (as_flag z) (flag true)) (elim [ true ↦ as_flag_settles | false ↦ λ r. always (flag true) refl ]) h i
@@ -256,7 +281,9 @@ operator_held op.Or form t h = h
 -- ## fields
 
 -- a field of its class, of an object or of null
-field_settles : {u : Parts} {all heap : Heap} → IsWell u → IsKindedHeap u all heap → (f : ℕ) (d : FieldDef) → slice_get u.fields f ≡ Some d → (x : Value) → is_of_kind all (Ref d.class) x ≡ true → Settles all (Of d.kind) (λ bits. field u.classes heap f x)
+field_settles :
+    {u : Parts} {all heap : Heap} → IsWell u → IsKindedHeap u all heap → (f : ℕ) (d : FieldDef) → slice_get u.fields f ≡ Some d → (x : Value)
+    → is_of_kind all (Ref d.class) x ≡ true → Settles all (Of d.kind) (λ bits. field u.classes heap f x)
 field_settles well kinded f d is v.Null of = always Bad refl
 field_settles well kinded f d is (v.Num z) of = absurd (false≢true of)
 field_settles well kinded f d is (v.Flag b) of = absurd (false≢true of)
@@ -266,7 +293,10 @@ field_settles {u} {all} {heap} well kinded f d is (v.Obj o) of = go (slice_get h
     one_class None c e first second = absurd (false≢true first)
     one_class (Some x) c e first second = sym (eqb-true x.class c first) ∙ eqb-true x.class e second
 
-    gives : (x : Object) → slice_get heap o ≡ Some x → d.class ≡ x.class → (c : Option ClassDef) → slice_get u.classes x.class ≡ c → option_map_or (λ e. pointwise (is_of_field u all) e.fields x.cells) c false ≡ true → Settles all (Of d.kind) (λ bits. field u.classes heap f (v.Obj o))
+    gives :
+        (x : Object) → slice_get heap o ≡ Some x → d.class ≡ x.class → (c : Option ClassDef) → slice_get u.classes x.class ≡ c
+        → option_map_or (λ e. pointwise (is_of_field u all) e.fields x.cells) c false ≡ true
+        → Settles all (Of d.kind) (λ bits. field u.classes heap f (v.Obj o))
     gives x there same None classed whole = absurd (false≢true whole)
     gives x there same (Some e) classed whole =
         let found = field_at u well (is_of_field u all) heap o x e f d there classed whole is same in
@@ -277,12 +307,16 @@ field_settles {u} {all} {heap} well kinded f d is (v.Obj o) of = go (slice_get h
     go None none = settles_as (λ bits. ap (cell_of u.classes f) none) (always Bad refl)
     go (Some x) there = gives x there (one_class (slice_get all o) d.class x.class of (kinded.known o x there)) (slice_get u.classes x.class) refl (kinded.cells o x there)
 
-pub read_held : {u : Parts} {all heap : Heap} {g : ℕ → Seen} → IsWell u → IsKindedHeap u all heap → (f : ℕ) (t : Sort) → Held all t g → Held all (field_sort (slice_get u.fields f) t) (λ bits. with_value (g bits) (field u.classes heap f))
+pub read_held :
+    {u : Parts} {all heap : Heap} {g : ℕ → Seen} → IsWell u → IsKindedHeap u all heap → (f : ℕ) (t : Sort) → Held all t g
+    → Held all (field_sort (slice_get u.fields f) t) (λ bits. with_value (g bits) (field u.classes heap f))
 read_held {u} {all} {heap} {g} well kinded f t h = go (slice_get u.fields f) refl t h
   where
     go : (d : Option FieldDef) → slice_get u.fields f ≡ d → (t : Sort) → Held all t g → Held all (field_sort d t) (λ bits. with_value (g bits) (field u.classes heap f))
     go None is t h = record { settles = λ ok. absurd (false≢true ok) }
-    go (Some d) is (Of (Ref c)) h = where_held (d.class == c) (λ same. then_settles (Of (Ref c)) (λ bits. field u.classes heap f) (h.settles refl) (λ x of. field_settles well kinded f d is x (subst (λ c. is_of_kind all (Ref c) x ≡ true) (sym (eqb-true d.class c same)) of)))
+    go (Some d) is (Of (Ref c)) h = where_held (d.class == c) (λ same.
+        let own : Held all (Of (Ref d.class)) g = subst (λ c. Held all (Of (Ref c)) g) (sym (eqb-true d.class c same)) h in
+        then_settles (Of (Ref d.class)) (λ bits. field u.classes heap f) (own.settles refl) (field_settles well kinded f d is))
     go (Some d) is (Of Int) h = record { settles = λ ok. absurd (false≢true ok) }
     go (Some d) is (Of Flag) h = record { settles = λ ok. absurd (false≢true ok) }
     go (Some d) is NullOnly h = record { settles = λ ok. absurd (false≢true ok) }
@@ -297,7 +331,9 @@ holds_settles all set c (v.Obj o) is = always (flag (set o)) refl
 holds_settles all set c (v.Num z) is = absurd (false≢true is)
 holds_settles all set c (v.Flag b) is = absurd (false≢true is)
 
-has_settles : (all : Heap) (env : Env) (fields : List ℕ) (c : ℕ) (from x : Value) → is_of_kind all (Ref c) from ≡ true → is_of_kind all (Ref c) x ≡ true → Settles all (Of Flag) (λ bits. has (record env { ints = bits }) fields from x)
+has_settles :
+    (all : Heap) (env : Env) (fields : List ℕ) (c : ℕ) (from x : Value) → is_of_kind all (Ref c) from ≡ true → is_of_kind all (Ref c) x ≡ true
+    → Settles all (Of Flag) (λ bits. has (record env { ints = bits }) fields from x)
 has_settles all env fields c v.Null x is also = holds_settles all (reached env fields v.Null) c x also
 has_settles all env fields c (v.Obj o) x is also = holds_settles all (reached env fields (v.Obj o)) c x also
 has_settles all env fields c (v.Num z) x is also = absurd (false≢true is)
@@ -310,10 +346,15 @@ size_settles all env fields c (v.Num z) is = absurd (false≢true is)
 size_settles all env fields c (v.Flag b) is = absurd (false≢true is)
 
 -- a `\reach` whose beginning fits where the test says so
-pub has_held : {all : Heap} {f g : ℕ → Seen} (env : Env) (fields : List ℕ) (b : Bool) (c : ℕ) (t : Sort) → (b ≡ true → Settles all (Of (Ref c)) f) → Held all t g → Held all (has_sort (where_ b (Of (Ref c))) t) (λ bits. with_value (f bits) (λ x. with_value (g bits) (has (record env { ints = bits }) fields x)))
+pub has_held :
+    {all : Heap} {f g : ℕ → Seen} (env : Env) (fields : List ℕ) (b : Bool) (c : ℕ) (t : Sort) → (b ≡ true → Settles all (Of (Ref c)) f) → Held all t g
+    → Held all (has_sort (where_ b (Of (Ref c))) t) (λ bits. with_value (f bits) (λ x. with_value (g bits) (has (record env { ints = bits }) fields x)))
 has_held env fields false c t from h = record { settles = λ ok. absurd (false≢true ok) }
-has_held {all} env fields true c t from h = where_held (suits (Ref c) t) (λ is. both_settle (Of (Ref c)) (λ bits. has (record env { ints = bits }) fields) (from refl) (suited (Ref c) t is h) (has_settles all env fields c))
+has_held {all} env fields true c t from h = where_held (suits (Ref c) t) (λ is.
+    both_settle (Of (Ref c)) (λ bits. has (record env { ints = bits }) fields) (from refl) (suited (Ref c) t is h) (has_settles all env fields c))
 
-pub size_held : {all : Heap} {f : ℕ → Seen} (env : Env) (fields : List ℕ) (b : Bool) (c : ℕ) → (b ≡ true → Settles all (Of (Ref c)) f) → Held all (size_sort (where_ b (Of (Ref c)))) (λ bits. with_value (f bits) (size (record env { ints = bits }) fields))
+pub size_held :
+    {all : Heap} {f : ℕ → Seen} (env : Env) (fields : List ℕ) (b : Bool) (c : ℕ) → (b ≡ true → Settles all (Of (Ref c)) f)
+    → Held all (size_sort (where_ b (Of (Ref c)))) (λ bits. with_value (f bits) (size (record env { ints = bits }) fields))
 size_held env fields false c from = record { settles = λ ok. absurd (false≢true ok) }
 size_held {all} env fields true c from = record { settles = λ ok. then_settles (Of (Ref c)) (λ bits. size (record env { ints = bits }) fields) (from refl) (size_settles all env fields c) }

@@ -1,7 +1,6 @@
 -- Worked rows: a start that fits, an environment of its kinds at the end of a call, and a clause that settles in it.
-use Rattle.std.proofs.Common.{◌≡◌, ℕ, zero, suc, Bool, true, false, List, [], ◌∷◌, ◌++◌, Option, Some, None, refl, ap, subst, get_or, arith, lit≤}
-use Rattle.std.specs.Prelude.{◌≢◌, ◌<◌, ℤ, pos, IsTrue, slice_get, AllPairs}
-use Rattle.std.specs.Option.{option_map_or}
+use Rattle.std.proofs.Common.{◌≡◌, ℕ, zero, suc, true, false, List, [], ◌∷◌, Some, refl, ap, subst, get_or, arith, lit≤}
+use Rattle.std.specs.Prelude.{◌≢◌, ◌<◌, ℤ, pos, slice_get, AllPairs}
 use Rattle.std.proofs.lemmas.Bool.{false≢true}
 use Rattle.taco_unit.specs.declared.kind.Kind.{Kind}
 use Rattle.taco_unit.specs.declared.kind.Kind.TheVariants.{Int, Flag, Ref}
@@ -12,7 +11,6 @@ use Rattle.taco_unit.specs.declared.stmt.Stmt.TheVariants as s
 use Rattle.taco_unit.specs.declared.unit.ClassDef.{ClassDef}
 use Rattle.taco_unit.specs.declared.unit.FieldDef.{FieldDef}
 use Rattle.taco_unit.specs.declared.unit.MethodDef.{MethodDef}
-use Rattle.taco_unit.specs.declared.unit.ParamDef.{ParamDef}
 use Rattle.taco_unit.specs.Parts.{Parts}
 use Rattle.taco_unit.specs.Kinds.{Of, Around, Exit, sort_of}
 use Rattle.taco_unit.specs.Well.{IsWell, IsWellClass, IsWellField, IsWellMethod, around_method, param_kinds, result_kind}
@@ -165,8 +163,13 @@ keeps : Keeps alone.objects two
 keeps c zero is = is
 keeps c (suc o) is = absurd (false≢true is)
 
+of_kind : (r : Kind) → result_kind grow ≡ Some r → has_kind 4 two r (v.Obj 1) ≡ true
+of_kind r there =
+    let same : Ref 0 ≡ r = cc in
+    subst (λ k. has_kind 4 two k (v.Obj 1) ≡ true) same refl
+
 kinded : IsKinded two around env
-kinded = exit_kinded posed alone grow fits refl (Some (v.Obj 1)) two well keeps refl (λ r there. let same : Ref 0 ≡ r = cc in subst (λ k. option_map_or (has_kind 4 two k) (Some (v.Obj 1)) false ≡ true) same refl)
+kinded = exit_kinded posed alone grow fits refl (Some (v.Obj 1)) two well keeps refl of_kind
 
 sort_is : sort_of above around ≡ Of Flag
 sort_is = simp sort_forms refl

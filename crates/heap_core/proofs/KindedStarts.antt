@@ -1,6 +1,6 @@
 -- The clauses of a start that fits, and those of the end heap, are evaluated where their kinds are kept.
-use Rattle.std.proofs.Common.{◌≡◌, ℕ, zero, suc, ◌+◌, ◌≤◌, ◌<◌, Bool, true, false, ◌&&◌, ◌||◌, List, [], ◌∷◌, ◌++◌, length, map, Option, Some, None, refl, sym, ◌∙◌, ap, inl, inr, arith}
-use Rattle.std.specs.Prelude.{◌==◌, IsTrue, slice_get}
+use Rattle.std.proofs.Common.{◌≡◌, ℕ, zero, suc, ◌+◌, ◌≤◌, Bool, true, false, List, [], ◌∷◌, ◌++◌, length, map, Option, Some, None, refl, sym, ◌∙◌, ap, inl, inr, arith}
+use Rattle.std.specs.Prelude.{◌==◌, slice_get}
 use Rattle.std.specs.List.{list_all, list_any, flat_map, range_with_len}
 use Rattle.std.specs.Option.{option_map_or}
 use Rattle.std.specs.Cmp.Lexicographic.{pointwise}
@@ -14,7 +14,7 @@ use Rattle.taco_unit.specs.declared.unit.FieldDef.{FieldDef}
 use Rattle.taco_unit.specs.declared.unit.MethodDef.{MethodDef}
 use Rattle.taco_unit.specs.declared.unit.ParamDef.{ParamDef}
 use Rattle.taco_unit.specs.Parts.{Parts}
-use Rattle.taco_unit.specs.Kinds.{Sort, Of, Around, Entry, Exit, suits, sort_of, is_condition}
+use Rattle.taco_unit.specs.Kinds.{Of, Around, Entry, Exit, sort_of, is_condition}
 use Rattle.taco_unit.specs.Well.{IsWell, around_invariant, around_method, receiver_of, result_kind, param_kinds}
 use Rattle.heap_core.specs.declared.value.Value.{Value}
 use Rattle.heap_core.specs.declared.value.Value.TheVariants as v
@@ -24,11 +24,11 @@ use Rattle.heap_core.specs.declared.value.Seen.TheVariants.{Is, Bad, Out}
 use Rattle.heap_core.specs.declared.start.Start.{Start}
 use Rattle.heap_core.specs.Posed.{Posed}
 use Rattle.heap_core.specs.Outcomes.{is_out}
-use Rattle.heap_core.specs.Heap.{Heap, is_of}
-use Rattle.heap_core.specs.Eval.{Env, eval}
+use Rattle.heap_core.specs.Heap.{Heap}
+use Rattle.heap_core.specs.Eval.{Env}
 use Rattle.heap_core.specs.Start.{has_kind, has_field_kind, is_whole, is_receiver, is_argument, method_of, Fits}
-use Rattle.heap_core.specs.Judge.{invariant_env, entry_env, exit_env, values_of, invariants_of, invariants_at, all_invariants, needs_of, leaves_before}
-use Rattle.heap_core.specs.Kinded.{is_of_kind, is_of_field, has_kinds, IsKindedHeap, IsKinded, is_of_sort, Settles, by_bits, is_answer, with_bits, IsAnswered, StartsAreAnswered}
+use Rattle.heap_core.specs.Judge.{invariant_env, entry_env, exit_env, values_of, invariants_at, all_invariants, needs_of, gives_of}
+use Rattle.heap_core.specs.Kinded.{is_of_kind, is_of_field, has_kinds, IsKindedHeap, IsKinded, is_of_sort, Settles, by_bits, is_answer, with_bits, StartsAreAnswered}
 use Rattle.heap_core.proofs.Lists.{all_at, beside_more}
 use Rattle.heap_core.proofs.FieldLaws.{Keeps, kind_kept, whole_kept}
 use Rattle.heap_core.proofs.KindedForms.{Held, suited}
@@ -60,7 +60,9 @@ object_kinds u w heap x = go (slice_get u.classes x.class)
         at None is = is
         at (Some d) is = kind_of_value w heap d.kind y is
 
-    go : (d : Option ClassDef) → option_map_or (λ d. pointwise (has_field_kind u.fields w heap) d.fields x.cells) d false ≡ true → option_map_or (λ d. pointwise (is_of_field u heap) d.fields x.cells) d false ≡ true
+    go :
+        (d : Option ClassDef) → option_map_or (λ d. pointwise (has_field_kind u.fields w heap) d.fields x.cells) d false ≡ true
+        → option_map_or (λ d. pointwise (is_of_field u heap) d.fields x.cells) d false ≡ true
     go None is = is
     go (Some d) is = beside_more (has_field_kind u.fields w heap) (is_of_field u heap) cell d.fields x.cells is
 
@@ -74,20 +76,25 @@ whole_kinded u w heap all keeps whole = record {
 -- ## environments
 
 -- the receiver of a method that is called on a value
-receiver_kinded : (heap all : Heap) → Keeps heap all → (c : ℕ) (fixed : Bool) (x : Value) → is_receiver heap c fixed x ≡ true → option_map_or (λ d. is_of_kind all (Ref d) x) (receiver_of fixed c) true ≡ true
+receiver_kinded :
+    (heap all : Heap) → Keeps heap all → (c : ℕ) (fixed : Bool) (x : Value) → is_receiver heap c fixed x ≡ true
+    → option_map_or (λ d. is_of_kind all (Ref d) x) (receiver_of fixed c) true ≡ true
 receiver_kinded heap all keeps c true x is = refl
 receiver_kinded heap all keeps c false (v.Obj o) is = keeps c o is
 receiver_kinded heap all keeps c false v.Null is = absurd (false≢true is)
 receiver_kinded heap all keeps c false (v.Num z) is = absurd (false≢true is)
 receiver_kinded heap all keeps c false (v.Flag b) is = absurd (false≢true is)
 
-arguments_kinded : (w : ℕ) (heap all : Heap) → Keeps heap all → (ps : List ParamDef) (vs : List Value) → pointwise (is_argument w heap) ps vs ≡ true → pointwise (is_of_kind all) (map (λ q. q.kind) ps) vs ≡ true
+arguments_kinded :
+    (w : ℕ) (heap all : Heap) → Keeps heap all → (ps : List ParamDef) (vs : List Value) → pointwise (is_argument w heap) ps vs ≡ true
+    → pointwise (is_of_kind all) (map (λ q. q.kind) ps) vs ≡ true
 arguments_kinded w heap all keeps [] [] is = refl
 arguments_kinded w heap all keeps [] (y ∷ vs) is = absurd (false≢true is)
 arguments_kinded w heap all keeps (q ∷ ps) [] is = absurd (false≢true is)
 arguments_kinded w heap all keeps (q ∷ ps) (y ∷ vs) is =
     let both = and_parts (is_argument w heap q y) (pointwise (is_argument w heap) ps vs) is in
-    and_from (is_of_kind all q.kind y) (pointwise (is_of_kind all) (map (λ q. q.kind) ps) vs) (kind_of_value w all q.kind y (kind_kept w heap all keeps q.kind y both.0)) (arguments_kinded w heap all keeps ps vs both.1)
+    let first = kind_of_value w all q.kind y (kind_kept w heap all keeps q.kind y both.0) in
+    and_from (is_of_kind all q.kind y) (pointwise (is_of_kind all) (map (λ q. q.kind) ps) vs) first (arguments_kinded w heap all keeps ps vs both.1)
 
 -- what a fitting start tells of the method that is called
 module _ (p : Posed) (s : Start) (m : MethodDef) (fits : Fits s p) (called : method_of p ≡ Some m) where
@@ -113,7 +120,10 @@ module _ (p : Posed) (s : Start) (m : MethodDef) (fits : Fits s p) (called : met
 
   -- an `ensures` clause, where the method gives a result of its kind and a heap in which the objects of the
   -- start keep their classes
-  pub exit_kinded : (r : Option Value) (heap : Heap) → IsWell p.unit → Keeps s.objects heap → list_all (is_whole p.unit p.scope.ints heap) heap ≡ true → ((k : Kind) → result_kind m ≡ Some k → option_map_or (has_kind p.scope.ints heap k) r false ≡ true) → IsKinded heap (around_method p.unit m Exit (param_kinds m)) (exit_env p s r heap)
+  pub exit_kinded :
+      (r : Option Value) (heap : Heap) → IsWell p.unit → Keeps s.objects heap → list_all (is_whole p.unit p.scope.ints heap) heap ≡ true
+      → ((k : Kind) → result_kind m ≡ Some k → option_map_or (has_kind p.scope.ints heap k) r false ≡ true)
+      → IsKinded heap (around_method p.unit m Exit (param_kinds m)) (exit_env p s r heap)
   exit_kinded r heap well keeps whole given = record {
     clause = λ is. absurd (cc);
     unit = well;
@@ -131,7 +141,9 @@ module _ (p : Posed) (s : Start) (m : MethodDef) (fits : Fits s p) (called : met
       result_kinded k (Some x) is = kind_of_value p.scope.ints heap k x is
 
 -- an invariant of an object of the heap
-pub invariant_kinded : (p : Posed) (heap : Heap) (o : ℕ) (x : Object) → IsWell p.unit → list_all (is_whole p.unit p.scope.ints heap) heap ≡ true → slice_get heap o ≡ Some x → IsKinded heap (around_invariant p.unit x.class) (invariant_env p heap o)
+pub invariant_kinded :
+    (p : Posed) (heap : Heap) (o : ℕ) (x : Object) → IsWell p.unit → list_all (is_whole p.unit p.scope.ints heap) heap ≡ true
+    → slice_get heap o ≡ Some x → IsKinded heap (around_invariant p.unit x.class) (invariant_env p heap o)
 invariant_kinded p heap o x well whole there = record {
   clause = λ is. absurd (cc);
   unit = well;
@@ -182,7 +194,9 @@ one_answered {all} {f} s = record {
 }
 
 -- conditions, where the kinds are kept
-pub clauses_answered : {all : Heap} {k : Around} {env : Env} → IsKinded all k env → (cs : List Clause) → list_all (λ c. is_condition k c.expr) cs ≡ true → IsAnsweredList (λ bits. values_of (record env { ints = bits }) cs)
+pub clauses_answered :
+    {all : Heap} {k : Around} {env : Env} → IsKinded all k env → (cs : List Clause) → list_all (λ c. is_condition k c.expr) cs ≡ true
+    → IsAnsweredList (λ bits. values_of (record env { ints = bits }) cs)
 clauses_answered is [] fine = none_answered
 clauses_answered {all} {k} {env} is (c ∷ cs) fine =
     let both = and_parts (is_condition k c.expr) (list_all (λ c. is_condition k c.expr) cs) fine in
@@ -196,15 +210,20 @@ numbers_answered f each a (suc n) = appended_answered (each a) (numbers_answered
 -- ## a heap and a start
 
 -- the invariants of the objects of a heap that is whole
-pub invariants_answered : (p : Posed) (heap : Heap) → IsWell p.unit → list_all (is_whole p.unit p.scope.ints heap) heap ≡ true → IsAnsweredList (λ bits. all_invariants (with_bits p bits) heap)
+pub invariants_answered :
+    (p : Posed) (heap : Heap) → IsWell p.unit → list_all (is_whole p.unit p.scope.ints heap) heap ≡ true
+    → IsAnsweredList (λ bits. all_invariants (with_bits p bits) heap)
 invariants_answered p heap well whole = numbers_answered (λ bits. invariants_at (with_bits p bits) heap) each 0 (length heap)
   where
-    in_class : (o : ℕ) (x : Object) → slice_get heap o ≡ Some x → (d : Option ClassDef) → slice_get p.unit.classes x.class ≡ d → IsAnsweredList (λ bits. values_of (invariant_env (with_bits p bits) heap o) (option_map_or (λ (d : ClassDef). d.invariants) d []))
+    Answered : ℕ → List Clause → Type 0
+    Answered o cs = IsAnsweredList (λ bits. values_of (invariant_env (with_bits p bits) heap o) cs)
+
+    in_class : (o : ℕ) (x : Object) → slice_get heap o ≡ Some x → (d : Option ClassDef) → slice_get p.unit.classes x.class ≡ d → Answered o (option_map_or (λ d. d.invariants) d [])
     in_class o x there None class = none_answered
     in_class o x there (Some d) class =
         clauses_answered (invariant_kinded p heap o x well whole there) d.invariants (well.classes x.class d class).invariants
 
-    at : (o : ℕ) (x : Option Object) → slice_get heap o ≡ x → IsAnsweredList (λ bits. values_of (invariant_env (with_bits p bits) heap o) (option_map_or (λ (x : Object). option_map_or (λ (d : ClassDef). d.invariants) (slice_get p.unit.classes x.class) []) x []))
+    at : (o : ℕ) (x : Option Object) → slice_get heap o ≡ x → Answered o (option_map_or (λ x. option_map_or (λ d. d.invariants) (slice_get p.unit.classes x.class) []) x [])
     at o None there = none_answered
     at o (Some x) there = in_class o x there (slice_get p.unit.classes x.class) refl
 
@@ -218,6 +237,20 @@ needs_answered p s well fits = go (method_of p) refl
     go : (m : Option MethodDef) → method_of p ≡ m → IsAnsweredList (λ bits. option_map_or (λ (m : MethodDef). values_of (entry_env (with_bits p bits) s) m.needs) m [])
     go None called = none_answered
     go (Some m) called = clauses_answered (entry_kinded p s m fits called well) m.needs (well.methods p.method m called).needs
+
+-- the `ensures` clauses, where the run gives a result of its kind and a heap that is whole, in which the
+-- objects of the start keep their classes
+pub gives_answered :
+    (p : Posed) (s : Start) (r : Option Value) (heap : Heap) → IsWell p.unit → Fits s p → Keeps s.objects heap
+    → list_all (is_whole p.unit p.scope.ints heap) heap ≡ true
+    → ((m : MethodDef) (k : Kind) → method_of p ≡ Some m → result_kind m ≡ Some k → option_map_or (has_kind p.scope.ints heap k) r false ≡ true)
+    → IsAnsweredList (λ bits. gives_of (with_bits p bits) s r heap)
+gives_answered p s r heap well fits keeps whole given = go (method_of p) refl
+  where
+    go : (m : Option MethodDef) → method_of p ≡ m → IsAnsweredList (λ bits. option_map_or (λ (m : MethodDef). values_of (exit_env (with_bits p bits) s r heap) m.gives) m [])
+    go None called = none_answered
+    go (Some m) called =
+        clauses_answered (exit_kinded p s m fits called r heap well keeps whole (λ k. given m k called)) m.gives (well.methods p.method m called).gives
 
 pub starts_are_answered : StartsAreAnswered
 starts_are_answered p s well fits =

@@ -1,11 +1,9 @@
 -- Evaluations that settle: values, numbers, one operand after another, quantifiers.
 use Rattle.std.proofs.Common.{◌≡◌, ◌⊎◌, ℕ, zero, suc, ◌+◌, ◌-◌, ◌^◌, ◌<◌, ◌≤◌, Bool, true, false, not, ◌&&◌, ◌||◌, cond, List, [], ◌∷◌, refl, sym, ◌∙◌, ap, inl, inr, arith}
-use Rattle.std.specs.Prelude.{ℤ, pos, negsuc, IsTrue, nat_lt, length}
+use Rattle.std.specs.Prelude.{ℤ, pos, negsuc, nat_lt}
 use Rattle.std.specs.List.{list_any, list_all, range_with_len}
 use Rattle.std.proofs.Math.Nat.{two-pow-succ, pow-le-pow_right}
 use Rattle.std.proofs.lemmas.Bool.{false≢true, cases_Bool, cases_eq, and_from, lt-ltb}
-use Rattle.std.proofs.lemmas.List.Folds.{list_any_at}
-use Rattle.std.proofs.lemmas.List.FromFn.{length-range_with_len, get_or-range_with_len}
 use Rattle.taco_unit.specs.declared.kind.Kind.TheVariants.{Int, Flag}
 use Rattle.taco_unit.specs.Kinds.{Sort, Of}
 use Rattle.heap_core.specs.declared.value.Value.{Value}
@@ -16,6 +14,7 @@ use Rattle.heap_core.specs.Outcomes.{in_bits, number, flag, with_value, is_out, 
 use Rattle.heap_core.specs.Heap.{Heap}
 use Rattle.heap_core.specs.Eval.{over}
 use Rattle.heap_core.specs.Kinded.{is_of_sort, Settles}
+use Rattle.heap_core.proofs.Closure.{any_below}
 
 -- ## values and numbers
 
@@ -65,7 +64,9 @@ number_settles all z = record {
 
 -- ## one operand after another
 
-pub then_settles : {all : Heap} (t : Sort) {u : Sort} {f : ℕ → Seen} (next : ℕ → Value → Seen) → Settles all t f → ((x : Value) → is_of_sort all t (Is x) ≡ true → Settles all u (λ bits. next bits x)) → Settles all u (λ bits. with_value (f bits) (next bits))
+pub then_settles :
+    {all : Heap} (t : Sort) {u : Sort} {f : ℕ → Seen} (next : ℕ → Value → Seen) → Settles all t f
+    → ((x : Value) → is_of_sort all t (Is x) ≡ true → Settles all u (λ bits. next bits x)) → Settles all u (λ bits. with_value (f bits) (next bits))
 then_settles {all} t {u} {f} next s h = go s.outcome s.of_sort s.with_enough s.with_any
   where
     go : (o : Seen) → is_of_sort all t o ≡ true → ((bits : ℕ) → s.enough ≤ bits → f bits ≡ o) → ((bits : ℕ) → (f bits ≡ Out) ⊎ (f bits ≡ o)) → Settles all u (λ bits. with_value (f bits) (next bits))
@@ -91,7 +92,10 @@ then_settles {all} t {u} {f} next s h = go s.outcome s.of_sort s.with_enough s.w
         }
 
 -- two operands
-pub both_settle : {all : Heap} (t : Sort) {u : Sort} {f g : ℕ → Seen} (next : ℕ → Value → Value → Seen) → Settles all t f → Settles all t g → ((x y : Value) → is_of_sort all t (Is x) ≡ true → is_of_sort all t (Is y) ≡ true → Settles all u (λ bits. next bits x y)) → Settles all u (λ bits. with_value (f bits) (λ x. with_value (g bits) (next bits x)))
+pub both_settle :
+    {all : Heap} (t : Sort) {u : Sort} {f g : ℕ → Seen} (next : ℕ → Value → Value → Seen) → Settles all t f → Settles all t g
+    → ((x y : Value) → is_of_sort all t (Is x) ≡ true → is_of_sort all t (Is y) ≡ true → Settles all u (λ bits. next bits x y))
+    → Settles all u (λ bits. with_value (f bits) (λ x. with_value (g bits) (next bits x)))
 both_settle {all} t {u} {f} {g} next s r h =
     then_settles t (λ bits x. with_value (g bits) (next bits x)) s (λ x is. then_settles t (λ bits. next bits x) r (λ y also. h x y is also))
 
@@ -129,15 +133,7 @@ nothing (x ∷ xs) = nothing xs
 
 none_below : (p : ℕ → Bool) (n o : ℕ) → list_any p (range_with_len 0 n) ≡ false → o < n → p o ≡ false
 none_below p n o none low =
-    elim (cases_Bool (p o)) [
-      | inl is ↦
-          let inside : o < length (range_with_len 0 n) = omega (arith, length-range_with_len 0 n) in
-          let found : list_any p (range_with_len 0 n) ≡ true =
-          list_any_at p (range_with_len 0 n) o 0 inside (ap p (get_or-range_with_len 0 n o 0 low ∙ omega arith) ∙ is)
-          in
-          absurd (false≢true (sym none ∙ found))
-      | inr is_not ↦ is_not
-    ]
+    elim (cases_Bool (p o)) [ inl is ↦ absurd (false≢true (sym none ∙ any_below p n o low is)) | inr is_not ↦ is_not ]
 
 -- what is looked at in the domain alone
 where_true : (b x y : Bool) → (b ≡ true → x ≡ y) → (b && x) ≡ (b && y)
@@ -148,13 +144,26 @@ unless_true : (b x y : Bool) → (b ≡ true → x ≡ y) → (not b || x) ≡ (
 unless_true true x y same = same refl
 unless_true false x y same = refl
 
+-- tests that are alike in the domain
+any_there :
+    (domain p q : ℕ → Bool) (n : ℕ) → ((o : ℕ) → o < n → domain o ≡ true → p o ≡ q o)
+    → list_any (λ o. domain o && p o) (range_with_len 0 n) ≡ list_any (λ o. domain o && q o) (range_with_len 0 n)
+any_there domain p q n same =
+    any_alike (λ o. domain o && p o) (λ o. domain o && q o) 0 n (λ o low. where_true (domain o) (p o) (q o) (same o (omega (arith, low))))
+
+all_there :
+    (domain p q : ℕ → Bool) (n : ℕ) → ((o : ℕ) → o < n → domain o ≡ true → p o ≡ q o)
+    → list_all (λ o. not (domain o) || p o) (range_with_len 0 n) ≡ list_all (λ o. not (domain o) || q o) (range_with_len 0 n)
+all_there domain p q n same =
+    all_alike (λ o. not (domain o) || p o) (λ o. not (domain o) || q o) 0 n (λ o low. unless_true (domain o) (p o) (q o) (same o (omega (arith, low))))
+
 -- instances that are alike in the domain
 over_alike : (every : Bool) (domain : ℕ → Bool) (f g : ℕ → Seen) (n : ℕ) → ((o : ℕ) → o < n → domain o ≡ true → f o ≡ g o) → over every domain f n ≡ over every domain g n
 over_alike every domain f g n same =
-    let outs = any_alike (λ o. domain o && is_out (f o)) (λ o. domain o && is_out (g o)) 0 n (λ o low. where_true (domain o) (is_out (f o)) (is_out (g o)) (λ is. ap is_out (same o (omega (arith, low)) is))) in
-    let bads = any_alike (λ o. domain o && is_bad (f o)) (λ o. domain o && is_bad (g o)) 0 n (λ o low. where_true (domain o) (is_bad (f o)) (is_bad (g o)) (λ is. ap is_bad (same o (omega (arith, low)) is))) in
-    let alls = all_alike (λ o. not (domain o) || is_true (f o)) (λ o. not (domain o) || is_true (g o)) 0 n (λ o low. unless_true (domain o) (is_true (f o)) (is_true (g o)) (λ is. ap is_true (same o (omega (arith, low)) is))) in
-    let anys = any_alike (λ o. domain o && is_true (f o)) (λ o. domain o && is_true (g o)) 0 n (λ o low. where_true (domain o) (is_true (f o)) (is_true (g o)) (λ is. ap is_true (same o (omega (arith, low)) is))) in
+    let outs = any_there domain (λ o. is_out (f o)) (λ o. is_out (g o)) n (λ o low is. ap is_out (same o low is)) in
+    let bads = any_there domain (λ o. is_bad (f o)) (λ o. is_bad (g o)) n (λ o low is. ap is_bad (same o low is)) in
+    let alls = all_there domain (λ o. is_true (f o)) (λ o. is_true (g o)) n (λ o low is. ap is_true (same o low is)) in
+    let anys = any_there domain (λ o. is_true (f o)) (λ o. is_true (g o)) n (λ o low is. ap is_true (same o low is)) in
     rw (outs, bads, alls, anys) refl
 
 -- Bad takes the place of an instance outside the domain, which is not looked at
@@ -171,40 +180,57 @@ not_out all t (Is x) is = refl
 not_out all t Bad is = refl
 not_out all t Out is = absurd (false≢true is)
 
-chosen : (all : Heap) (outs bads every d e : Bool) → outs ≡ false → is_of_sort all (Of Flag) (cond outs Out (cond bads Bad (cond every (flag d) (flag e)))) ≡ true
-chosen all true bads every d e none = absurd (false≢true (sym none))
-chosen all false true every d e none = refl
-chosen all false false true d e none = refl
-chosen all false false false d e none = refl
+-- what is over instances none of which is Out
+over_fits : (all : Heap) (every : Bool) (domain : ℕ → Bool) (f : ℕ → Seen) (n : ℕ) → ((o : ℕ) → is_out (f o) ≡ false) → is_of_sort all (Of Flag) (over every domain f n) ≡ true
+over_fits all every domain f n none =
+    let bads = list_any (λ o. domain o && is_bad (f o)) (range_with_len 0 n) in
+    let alls = list_all (λ o. not (domain o) || is_true (f o)) (range_with_len 0 n) in
+    let anys = list_any (λ o. domain o && is_true (f o)) (range_with_len 0 n) in
+    chosen (list_any (λ o. domain o && is_out (f o)) (range_with_len 0 n)) bads every alls anys outs
+  where
+    nowhere : (b : Bool) → (b && false) ≡ false
+    nowhere true = refl
+    nowhere false = refl
 
-pub over_settles : {all : Heap} (every : Bool) (domain : ℕ → Bool) (instance : ℕ → ℕ → Seen) (n : ℕ) → ((o : ℕ) → domain o ≡ true → Settles all (Of Flag) (λ bits. instance bits o)) → Settles all (Of Flag) (λ bits. over every domain (instance bits) n)
+    outs : list_any (λ o. domain o && is_out (f o)) (range_with_len 0 n) ≡ false
+    outs =
+        any_alike (λ o. domain o && is_out (f o)) (λ o. false) 0 n (λ o low. ap (λ b. domain o && b) (none o) ∙ nowhere (domain o)) ∙ nothing (range_with_len 0 n)
+
+    chosen : (outs bads every d e : Bool) → outs ≡ false → is_of_sort all (Of Flag) (cond outs Out (cond bads Bad (cond every (flag d) (flag e)))) ≡ true
+    chosen true bads every d e is = absurd (false≢true (sym is))
+    chosen false true every d e is = refl
+    chosen false false true d e is = refl
+    chosen false false false d e is = refl
+
+pub over_settles :
+    {all : Heap} (every : Bool) (domain : ℕ → Bool) (instance : ℕ → ℕ → Seen) (n : ℕ)
+    → ((o : ℕ) → domain o ≡ true → Settles all (Of Flag) (λ bits. instance bits o))
+    → Settles all (Of Flag) (λ bits. over every domain (instance bits) n)
 over_settles {all} every domain instance n h = record {
   outcome = over every domain (λ o. (each o).outcome) n;
-  of_sort = chosen all (list_any (λ o. domain o && is_out (each o).outcome) (range_with_len 0 n)) (list_any (λ o. domain o && is_bad (each o).outcome) (range_with_len 0 n)) every (list_all (λ o. not (domain o) || is_true (each o).outcome) (range_with_len 0 n)) (list_any (λ o. domain o && is_true (each o).outcome) (range_with_len 0 n)) none_out;
+  of_sort = over_fits all every domain (λ o. (each o).outcome) n (λ o. not_out all (Of Flag) (each o).outcome (each o).of_sort);
   enough = most (λ o. (each o).enough) n;
-  with_enough = λ bits few. over_alike every domain (instance bits) (λ o. (each o).outcome) n (λ o low is. sym (in_domain (domain o) (instance bits o) is) ∙ (each o).with_enough bits (omega (arith, few, most_at (λ o. (each o).enough) n o low)));
+  with_enough = λ bits few. over_alike every domain (instance bits) (λ o. (each o).outcome) n (wide bits few);
   with_any = λ bits. elim (cases_Bool (list_any (λ o. domain o && is_out (instance bits o)) (range_with_len 0 n))) [
     | inl some ↦ inl (rw some refl)
-    | inr none ↦ inr (over_alike every domain (instance bits) (λ o. (each o).outcome) n (λ o low is. at bits none o low is))
+    | inr none ↦ inr (over_alike every domain (instance bits) (λ o. (each o).outcome) n (narrow bits none))
   ];
 }
   where
     each : (o : ℕ) → Settles all (Of Flag) (λ bits. cond (domain o) (instance bits o) Bad)
     each o = guarded (domain o) (h o)
 
-    none_out : list_any (λ o. domain o && is_out (each o).outcome) (range_with_len 0 n) ≡ false
-    none_out =
-        any_alike (λ o. domain o && is_out (each o).outcome) (λ o. false) 0 n (λ o low. where_true (domain o) (is_out (each o).outcome) false (λ is. not_out all (Of Flag) (each o).outcome (each o).of_sort) ∙ nowhere (domain o)) ∙ nothing (range_with_len 0 n)
-      where
-        nowhere : (b : Bool) → (b && false) ≡ false
-        nowhere true = refl
-        nowhere false = refl
+    wide : (bits : ℕ) → most (λ o. (each o).enough) n ≤ bits → (o : ℕ) → o < n → domain o ≡ true → instance bits o ≡ (each o).outcome
+    wide bits few o low is =
+        let enough : (each o).enough ≤ bits = omega (arith, few, most_at (λ o. (each o).enough) n o low) in
+        sym (in_domain (domain o) (instance bits o) is) ∙ (each o).with_enough bits enough
 
-    at : (bits : ℕ) → list_any (λ o. domain o && is_out (instance bits o)) (range_with_len 0 n) ≡ false → (o : ℕ) → o < n → domain o ≡ true → instance bits o ≡ (each o).outcome
-    at bits none o low is =
+    narrow : (bits : ℕ) → list_any (λ o. domain o && is_out (instance bits o)) (range_with_len 0 n) ≡ false → (o : ℕ) → o < n → domain o ≡ true → instance bits o ≡ (each o).outcome
+    narrow bits none o low is =
         elim ((each o).with_any bits) [
           | inl out ↦
               let gives : instance bits o ≡ Out = sym (in_domain (domain o) (instance bits o) is) ∙ out in
-              absurd (false≢true (sym (none_below (λ o. domain o && is_out (instance bits o)) n o none low) ∙ and_from (domain o) (is_out (instance bits o)) is (ap is_out gives)))
+              let found = and_from (domain o) (is_out (instance bits o)) is (ap is_out gives) in
+              absurd (false≢true (sym (none_below (λ o. domain o && is_out (instance bits o)) n o none low) ∙ found))
           | inr gives ↦ sym (in_domain (domain o) (instance bits o) is) ∙ gives
         ]

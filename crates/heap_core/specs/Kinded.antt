@@ -1,11 +1,10 @@
 -- What the kinds of a unit say of the values of its clauses. (This project's own.)
-use Rattle.std.specs.Prelude.{◌≡◌, ◌≢◌, ◌⊎◌, ℕ, ◌≤◌, Bool, true, false, List, ◌++◌, slice_get, Option, Some, IsTrue, IsFalse}
+use Rattle.std.specs.Prelude.{◌≡◌, ◌≢◌, ◌⊎◌, ℕ, ◌≤◌, Bool, true, false, ◌++◌, slice_get, Some, IsTrue, IsFalse}
 use Rattle.std.specs.List.{list_all}
 use Rattle.std.specs.Option.{option_map_or}
 use Rattle.std.specs.Cmp.Lexicographic.{pointwise}
 use Rattle.taco_unit.specs.declared.kind.Kind.{Kind}
 use Rattle.taco_unit.specs.declared.kind.Kind.TheVariants as kind
-use Rattle.taco_unit.specs.declared.unit.FieldDef.{FieldDef}
 use Rattle.taco_unit.specs.declared.expr.Expr.{Expr}
 use Rattle.taco_unit.specs.Parts.{Parts}
 use Rattle.taco_unit.specs.Kinds.{Sort, Of, NullOnly, Around, Code, Exit, sort_of}
