@@ -1,11 +1,11 @@
 -- Closure over a graph: what one round more holds, and after how many rounds nothing more comes.
-use Rattle.std.proofs.Common.{◌≡◌, ◌⊎◌, ℕ, zero, suc, ◌+◌, ◌-◌, ◌<◌, ◌≤◌, Bool, true, false, ◌&&◌, ◌||◌, cond, List, [], ◌∷◌, length, refl, sym, ◌∙◌, subst, ap, inl, inr, arith}
+use Rattle.std.proofs.Common.{◌≡◌, ◌⊎◌, ℕ, zero, suc, ◌+◌, ◌-◌, ◌<◌, ◌≤◌, Bool, true, false, ◌&&◌, ◌||◌, cond, eqb, List, [], ◌∷◌, length, refl, sym, ◌∙◌, subst, ap, inl, inr, arith}
 use Rattle.std.specs.List.{list_any, range_with_len}
-use Rattle.std.proofs.lemmas.Bool.{false≢true, cases_Bool, cases_eq, or_cases, or_left, or_right, and_parts, and_from}
+use Rattle.std.proofs.lemmas.Bool.{false≢true, false_from_ne_true, cases_Bool, cases_eq, or_cases, or_right, and_parts, and_from, eqb-true, eq-eqb}
 use Rattle.std.proofs.lemmas.Bool.Decides.{same_from_decides}
 use Rattle.std.proofs.lemmas.List.Folds.{list_any_at, Any-from_list_any}
 use Rattle.std.proofs.lemmas.List.FromFn.{length-range_with_len, get_or-range_with_len}
-use Rattle.heap_core.specs.Closure.{Graph, widened, rounds, closure, Within, IsClosed, BeginsBelow, IsLeastClosed, ClosureIsLeastClosed, RoundsEnd, RoundsOfUnion, RoundsOfSum}
+use Rattle.heap_core.specs.Closure.{Graph, widened, rounds, closure, Within, ClosureIsLeastClosed, RoundsEnd, RoundsOfUnion, RoundsOfSum}
 
 -- ## tests of numbers
 
@@ -219,3 +219,35 @@ rounds_of_union edge bound a b (suc n) o =
     widened_agree edge edge bound (rounds n edge bound (λ q. a q || b q)) (λ q. rounds n edge bound a q || rounds n edge bound b q) o
     (λ p within. refl) (λ p within. rounds_of_union edge bound a b n p) (rounds_of_union edge bound a b n o)
     ∙ widened_union edge bound (rounds n edge bound a) (rounds n edge bound b) o
+
+-- ## the rounds of the numbers of a set, each for itself
+
+rounds_of_none : (n : ℕ) (edge : Graph) (bound o : ℕ) → rounds n edge bound (λ q. false) o ≡ false
+rounds_of_none n edge bound o =
+    false_from_ne_true (rounds n edge bound (λ q. false) o) (rounds_each (λ q. ⊥) n edge bound (λ q. false) (λ q is. false≢true is) (λ p q within none to. none) o)
+
+rounds_of_one : (n : ℕ) (edge : Graph) (bound q o : ℕ) (b : Bool) → rounds n edge bound (λ r. b && eqb r q) o ≡ (b && rounds n edge bound (λ r. eqb r q) o)
+rounds_of_one n edge bound q o true = refl
+rounds_of_one n edge bound q o false = rounds_of_none n edge bound o
+
+rounds_of_listed : (n : ℕ) (edge : Graph) (bound : ℕ) (set : ℕ → Bool) (qs : List ℕ) (o : ℕ) → rounds n edge bound (λ r. list_any (λ q. set q && eqb r q) qs) o ≡ list_any (λ q. set q && rounds n edge bound (λ r. eqb r q) o) qs
+rounds_of_listed n edge bound set [] o = rounds_of_none n edge bound o
+rounds_of_listed n edge bound set (q ∷ qs) o =
+    rounds_of_union edge bound (λ r. set q && eqb r q) (λ r. list_any (λ p. set p && eqb r p) qs) n o ∙ rw (rounds_of_one n edge bound q o (set q), rounds_of_listed n edge bound set qs o) refl
+
+listed : (set : ℕ → Bool) (bound o : ℕ) → o < bound → set o ≡ list_any (λ q. set q && eqb o q) (range_with_len 0 bound)
+listed set bound o within = same_from_decides (set o) (list_any (λ q. set q && eqb o q) (range_with_len 0 bound)) (λ is. is, λ is. is) (there, back)
+  where
+    there : list_any (λ q. set q && eqb o q) (range_with_len 0 bound) ≡ true → set o ≡ true
+    there is =
+        let found = any_in (λ q. set q && eqb o q) bound is in
+        let both = and_parts (set found.0) (eqb o found.0) found.2 in
+        ap set (eqb-true o found.0 both.1) ∙ both.0
+
+    back : set o ≡ true → list_any (λ q. set q && eqb o q) (range_with_len 0 bound) ≡ true
+    back is = any_below (λ q. set q && eqb o q) bound o within (and_from (set o) (eqb o o) is (eq-eqb o o refl))
+
+pub rounds_of_members : (n : ℕ) (edge : Graph) (bound : ℕ) (set : ℕ → Bool) (o : ℕ) → o < bound → rounds n edge bound set o ≡ list_any (λ q. set q && rounds n edge bound (λ r. eqb r q) o) (range_with_len 0 bound)
+rounds_of_members n edge bound set o within =
+    rounds_agree_below n edge edge bound set (λ r. list_any (λ q. set q && eqb r q) (range_with_len 0 bound)) (λ p q before after. refl) (listed set bound) o within
+    ∙ rounds_of_listed n edge bound set (range_with_len 0 bound) o
