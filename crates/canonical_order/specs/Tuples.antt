@@ -3,17 +3,14 @@
 use Rattle.std.specs.Prelude.{not, ◌+◌, ℕ, zero, suc, ◌==◌, Bool, true, false, List, [], ◌∷◌, ◌++◌, length, map, filter, flat_map, slice_get, IsTrue}
 use Rattle.std.specs.List.{range_with_len}
 use Rattle.std.specs.Option.{option_map_or}
-use Rattle.std.specs.Ordering.{int_eq}
 use Rattle.taco_unit.specs.declared.unit.MethodDef.{MethodDef}
 use Rattle.taco_unit.specs.Parts.{Parts}
 use Rattle.taco_unit.specs.Kinds.{is_class_kind}
 use Rattle.heap_core.specs.declared.value.Value.{Value}
-use Rattle.heap_core.specs.declared.value.Value.TheVariants.{Null, Obj, Num, Flag}
-use Rattle.heap_core.specs.declared.value.Seen.{Seen}
-use Rattle.heap_core.specs.declared.value.Seen.TheVariants.{Is}
+use Rattle.heap_core.specs.declared.value.Value.TheVariants.{Null, Obj}
 use Rattle.heap_core.specs.declared.start.Start.{Start}
 use Rattle.heap_core.specs.Posed.{Posed}
-use Rattle.heap_core.specs.Outcomes.{same_flag}
+use Rattle.heap_core.specs.Outcomes.{is_value, gives}
 use Rattle.heap_core.specs.Heap.{field}
 use Rattle.heap_core.specs.Start.{Fits, method_of}
 use Rattle.heap_core.specs.Judge.{is_good}

@@ -23,7 +23,7 @@ use Rattle.heap_core.specs.Posed.{Posed}
 use Rattle.heap_core.specs.Outcomes.{value_in, zero_of, in_bits, is_bad, is_out}
 use Rattle.heap_core.specs.Heap.{Heap, is_of, class_at, place_of, declares, cell, cell_of, field, put, put_cell, first_value, blank, has_room, grown}
 use Rattle.heap_core.specs.Start.{has_kind, has_field_kind, is_whole}
-use Rattle.heap_core.proofs.Lists.{set_at, set_apart, append_before, append_last, all_at, all_from, beside, beside_set, beside_more, beside_map}
+use Rattle.heap_core.proofs.Lists.{set_at, set_apart, all_at, all_from, beside, beside_set, beside_more, beside_map}
 
 pub none_some : {A : Type 0} {x : A} → None ≡ Some x → ⊥
 none_some is = absurd (cc)

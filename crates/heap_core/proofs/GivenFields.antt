@@ -26,7 +26,7 @@ use Rattle.heap_core.specs.Posed.{Posed}
 use Rattle.heap_core.specs.Outcomes.{value_in, zero_of, in_bits, is_bad, is_out}
 use Rattle.heap_core.specs.Heap.{Heap, is_of, class_at, place_of, declares, cell, cell_of, field, first_value, blank, has_room, grown}
 use Rattle.heap_core.specs.Start.{has_kind, has_field_kind, is_whole}
-use Rattle.heap_core.proofs.Lists.{append_before, append_last, all_at, all_from, beside, beside_map, place_found, all_filtered, any_filtered}
+use Rattle.heap_core.proofs.Lists.{slice_get-append_left, append_last, all_at, all_from, beside, beside_map, place_found, all_filtered, any_filtered}
 use Rattle.heap_core.proofs.FieldLaws.{whole_kept, Keeps, none_some, some_same, below}
 
 -- ## which class declares a field
@@ -185,7 +185,7 @@ grown_before : {p : Posed} {heap : Heap} {class : ℕ} {after : Heap} → (w : I
 grown_before {p} {heap} {class} {after} w o apart = go (nat_lt o (length heap)) refl
   where
     go : (b : Bool) → nat_lt o (length heap) ≡ b → slice_get after o ≡ slice_get heap o
-    go true within = ap (λ h. slice_get h o) w.is ∙ append_before heap (w.object ∷ []) o (below o (length heap) within)
+    go true within = ap (λ h. slice_get h o) w.is ∙ slice_get-append_left heap (w.object ∷ []) o (below o (length heap) within)
     go false beyond =
         let far : length heap ≤ o = grind (arith, beyond) in
         slice_get_past after o (omega (arith, far, apart, grown_length w)) ∙ sym (slice_get_past heap o far)

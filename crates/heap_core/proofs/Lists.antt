@@ -19,10 +19,16 @@ set_apart (x ∷ xs) zero (suc k) v apart = refl
 set_apart (x ∷ xs) (suc i) zero v apart = refl
 set_apart (x ∷ xs) (suc i) (suc k) v apart = set_apart xs i k v (λ same. apart (ap suc same))
 
-pub append_before : {A : Type 0} (xs ys : List A) (i : ℕ) → i < length xs → slice_get (xs ++ ys) i ≡ slice_get xs i
-append_before [] ys i inside = absurd (omega (arith, inside))
-append_before (x ∷ xs) ys zero inside = refl
-append_before (x ∷ xs) ys (suc i) inside = append_before xs ys i (omega (arith, inside))
+pub slice_get-append_left : {A : Type 0} (xs ys : List A) (i : ℕ) → i < length xs → slice_get (xs ++ ys) i ≡ slice_get xs i
+slice_get-append_left [] ys i within = absurd (omega arith)
+slice_get-append_left (x ∷ xs) ys zero within = refl
+slice_get-append_left (x ∷ xs) ys (suc i) within = slice_get-append_left xs ys i (omega arith)
+
+pub slice_get-append_right : {A : Type 0} (xs ys : List A) (i : ℕ) → slice_get (xs ++ ys) (length xs + i) ≡ slice_get ys i
+slice_get-append_right [] ys i = ap (slice_get ys) (omega arith)
+slice_get-append_right (x ∷ xs) ys i =
+    let e : suc (length xs) + i ≡ suc (length xs + i) = omega arith in
+    ap (slice_get (x ∷ (xs ++ ys))) e ∙ slice_get-append_right xs ys i
 
 pub append_last : {A : Type 0} (xs : List A) (y : A) → slice_get (xs ++ y ∷ []) (length xs) ≡ Some y
 append_last [] y = refl

@@ -6,5 +6,6 @@ pub mod Eval
 pub mod Exec
 pub mod Start
 pub mod Judge
+pub mod Kinded
 pub mod Laws
 pub mod Stages

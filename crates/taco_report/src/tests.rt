@@ -3,12 +3,11 @@ ghost use Rattle.taco_unit.specs.declared.kind.Kind.TheVariants as kind;
 ghost use Rattle.taco_unit.specs.declared.stmt.Stmt.TheVariants.{Block};
 
 use super::*;
-use declared_names::Many;
 use heap_core::{Judged, Object, Part, Problem, Value};
 use heap_replay::{Outcome, Replayed};
 use java_lex::Absent;
 use no_memory::NoMemory;
-use refusals::Refusal;
+use refusals::{Many, Refusal};
 use sqlite_items::Items;
 use std::alloc::Global;
 use std::test::Fail;
