@@ -22,10 +22,10 @@ any_in test n is =
     let same : found.0 ≡ found.1 = omega (arith, sym (get_or-range_with_len 0 n found.0 found.1 within) ∙ found.3) in
     (found.1, omega (arith, same, within), found.4)
 
--- two tests that agree below n
-any_agree : (p q : ℕ → Bool) (a n : ℕ) → ((o : ℕ) → o < a + n → p o ≡ q o) → list_any p (range_with_len a n) ≡ list_any q (range_with_len a n)
-any_agree p q a zero agree = refl
-any_agree p q a (suc n) agree = rw (agree a (omega arith), any_agree p q (a + 1) n (λ o below. agree o (omega arith))) refl
+-- tests that are alike at the numbers of a range
+pub any_alike : (p q : ℕ → Bool) (a n : ℕ) → ((o : ℕ) → o < a + n → p o ≡ q o) → list_any p (range_with_len a n) ≡ list_any q (range_with_len a n)
+any_alike p q a zero agree = refl
+any_alike p q a (suc n) agree = rw (agree a (omega arith), any_alike p q (a + 1) n (λ o below. agree o (omega arith))) refl
 
 -- ## how many numbers below n are in a set
 
@@ -173,7 +173,7 @@ rounds_end edge bound set m o enough =
 
 widened_agree : (edge other : Graph) (bound : ℕ) (a b : ℕ → Bool) (o : ℕ) → ((p : ℕ) → p < bound → edge p o ≡ other p o) → ((p : ℕ) → p < bound → a p ≡ b p) → a o ≡ b o → widened edge bound a o ≡ widened other bound b o
 widened_agree edge other bound a b o edges sets here =
-    rw (here, any_agree (λ p. a p && edge p o) (λ p. b p && other p o) 0 bound (λ p within. rw (edges p (omega arith), sets p (omega arith)) refl)) refl
+    rw (here, any_alike (λ p. a p && edge p o) (λ p. b p && other p o) 0 bound (λ p within. rw (edges p (omega arith), sets p (omega arith)) refl)) refl
 
 -- graphs whose edges from below the bound agree, and sets that agree
 pub rounds_agree : (n : ℕ) (edge other : Graph) (bound : ℕ) (a b : ℕ → Bool) → ((p o : ℕ) → p < bound → edge p o ≡ other p o) → ((o : ℕ) → a o ≡ b o) → (o : ℕ) → rounds n edge bound a o ≡ rounds n other bound b o
@@ -210,7 +210,7 @@ any_of_union p q (x ∷ xs) = rw (any_of_union p q xs) (regrouped (p x) (q x) (l
 
 widened_union : (edge : Graph) (bound : ℕ) (a b : ℕ → Bool) (o : ℕ) → widened edge bound (λ q. a q || b q) o ≡ (widened edge bound a o || widened edge bound b o)
 widened_union edge bound a b o =
-    rw (any_agree (λ p. (a p || b p) && edge p o) (λ p. (a p && edge p o) || (b p && edge p o)) 0 bound (λ p within. shared (a p) (b p) (edge p o)), any_of_union (λ p. a p && edge p o) (λ p. b p && edge p o) (range_with_len 0 bound))
+    rw (any_alike (λ p. (a p || b p) && edge p o) (λ p. (a p && edge p o) || (b p && edge p o)) 0 bound (λ p within. shared (a p) (b p) (edge p o)), any_of_union (λ p. a p && edge p o) (λ p. b p && edge p o) (range_with_len 0 bound))
     (regrouped (a o) (b o) (list_any (λ p. a p && edge p o) (range_with_len 0 bound)) (list_any (λ p. b p && edge p o) (range_with_len 0 bound)))
 
 pub rounds_of_union : RoundsOfUnion

@@ -1,11 +1,9 @@
 -- Evaluations that settle: values, numbers, one operand after another, quantifiers.
 use Rattle.std.proofs.Common.{◌≡◌, ◌⊎◌, ℕ, zero, suc, ◌+◌, ◌-◌, ◌^◌, ◌<◌, ◌≤◌, Bool, true, false, not, ◌&&◌, ◌||◌, cond, List, [], ◌∷◌, refl, sym, ◌∙◌, ap, inl, inr, arith}
-use Rattle.std.specs.Prelude.{ℤ, pos, negsuc, IsTrue, nat_lt, length}
+use Rattle.std.specs.Prelude.{ℤ, pos, negsuc, nat_lt}
 use Rattle.std.specs.List.{list_any, list_all, range_with_len}
 use Rattle.std.proofs.Math.Nat.{two-pow-succ, pow-le-pow_right}
 use Rattle.std.proofs.lemmas.Bool.{false≢true, cases_Bool, cases_eq, and_from, lt-ltb}
-use Rattle.std.proofs.lemmas.List.Folds.{list_any_at}
-use Rattle.std.proofs.lemmas.List.FromFn.{length-range_with_len, get_or-range_with_len}
 use Rattle.taco_unit.specs.declared.kind.Kind.TheVariants.{Int, Flag}
 use Rattle.taco_unit.specs.Kinds.{Sort, Of}
 use Rattle.heap_core.specs.declared.value.Value.{Value}
@@ -16,6 +14,7 @@ use Rattle.heap_core.specs.Outcomes.{in_bits, number, flag, with_value, is_out, 
 use Rattle.heap_core.specs.Heap.{Heap}
 use Rattle.heap_core.specs.Eval.{over}
 use Rattle.heap_core.specs.Kinded.{is_of_sort, Settles}
+use Rattle.heap_core.proofs.Closure.{any_below, any_alike}
 
 -- ## values and numbers
 
@@ -113,11 +112,6 @@ most_at f (suc n) o low =
     ]
 
 -- tests that are alike at the numbers of a range
-any_alike : (p q : ℕ → Bool) (a n : ℕ) → ((o : ℕ) → o < a + n → p o ≡ q o) → list_any p (range_with_len a n) ≡ list_any q (range_with_len a n)
-any_alike p q a zero same = refl
-any_alike p q a (suc n) same =
-    rw (same a (omega arith), any_alike p q (a + 1) n (λ o low. same o (omega (arith, low)))) refl
-
 all_alike : (p q : ℕ → Bool) (a n : ℕ) → ((o : ℕ) → o < a + n → p o ≡ q o) → list_all p (range_with_len a n) ≡ list_all q (range_with_len a n)
 all_alike p q a zero same = refl
 all_alike p q a (suc n) same =
@@ -130,12 +124,7 @@ nothing (x ∷ xs) = nothing xs
 none_below : (p : ℕ → Bool) (n o : ℕ) → list_any p (range_with_len 0 n) ≡ false → o < n → p o ≡ false
 none_below p n o none low =
     elim (cases_Bool (p o)) [
-      | inl is ↦
-          let inside : o < length (range_with_len 0 n) = omega (arith, length-range_with_len 0 n) in
-          let found : list_any p (range_with_len 0 n) ≡ true =
-          list_any_at p (range_with_len 0 n) o 0 inside (ap p (get_or-range_with_len 0 n o 0 low ∙ omega arith) ∙ is)
-          in
-          absurd (false≢true (sym none ∙ found))
+      | inl is ↦ absurd (false≢true (sym none ∙ any_below p n o low is))
       | inr is_not ↦ is_not
     ]
 
