@@ -17,7 +17,7 @@ use Rattle.bounds_table.specs.State.{State, IsSound, IsLive, known_of, blank}
 use Rattle.bounds_table.proofs.Showing.{worker_at}
 use Rattle.bounds_table.proofs.Allowed.{some_live}
 use Rattle.bounds_table.specs.Core.{tuple_count, first, opening}
-use Rattle.bounds_table.specs.Rule.{shown, first_view, spare}
+use Rattle.bounds_table.specs.Rule.{shown, first_view, spare, opening_words}
 
 -- one word more of a part
 take_more : (xs : List ℕ) (at x : ℕ) → get_elem? xs at ≡ some x → take (suc at) xs ≡ take at xs ++ x ∷ []

@@ -1,11 +1,11 @@
 -- Closure over a graph: what one round more holds, and after how many rounds nothing more comes.
-use Rattle.std.proofs.Common.{◌≡◌, ◌⊎◌, ℕ, zero, suc, ◌+◌, ◌-◌, ◌<◌, ◌≤◌, Bool, true, false, ◌&&◌, ◌||◌, cond, List, [], ◌∷◌, length, refl, sym, ◌∙◌, subst, ap, inl, inr, arith}
+use Rattle.std.proofs.Common.{◌≡◌, ◌⊎◌, ℕ, zero, suc, ◌+◌, ◌-◌, ◌<◌, ◌≤◌, Bool, true, false, ◌&&◌, ◌||◌, cond, eqb, List, [], ◌∷◌, length, refl, sym, ◌∙◌, subst, ap, inl, inr, arith}
 use Rattle.std.specs.List.{list_any, range_with_len}
-use Rattle.std.proofs.lemmas.Bool.{false≢true, cases_Bool, cases_eq, or_cases, or_left, or_right, and_parts, and_from}
+use Rattle.std.proofs.lemmas.Bool.{false≢true, false_from_ne_true, cases_Bool, cases_eq, or_cases, or_right, and_parts, and_from, eqb-true, eq-eqb}
 use Rattle.std.proofs.lemmas.Bool.Decides.{same_from_decides}
 use Rattle.std.proofs.lemmas.List.Folds.{list_any_at, Any-from_list_any}
 use Rattle.std.proofs.lemmas.List.FromFn.{length-range_with_len, get_or-range_with_len}
-use Rattle.heap_core.specs.Closure.{Graph, widened, rounds, closure, Within, IsClosed, BeginsBelow, IsLeastClosed, ClosureIsLeastClosed, RoundsEnd, RoundsOfUnion, RoundsOfSum}
+use Rattle.heap_core.specs.Closure.{Graph, widened, rounds, closure, Within, ClosureIsLeastClosed, RoundsEnd, RoundsOfUnion, RoundsOfSum}
 
 -- ## tests of numbers
 
@@ -22,10 +22,10 @@ any_in test n is =
     let same : found.0 ≡ found.1 = omega (arith, sym (get_or-range_with_len 0 n found.0 found.1 within) ∙ found.3) in
     (found.1, omega (arith, same, within), found.4)
 
--- two tests that agree below n
-any_agree : (p q : ℕ → Bool) (a n : ℕ) → ((o : ℕ) → o < a + n → p o ≡ q o) → list_any p (range_with_len a n) ≡ list_any q (range_with_len a n)
-any_agree p q a zero agree = refl
-any_agree p q a (suc n) agree = rw (agree a (omega arith), any_agree p q (a + 1) n (λ o below. agree o (omega arith))) refl
+-- tests that are alike at the numbers of a range
+pub any_alike : (p q : ℕ → Bool) (a n : ℕ) → ((o : ℕ) → o < a + n → p o ≡ q o) → list_any p (range_with_len a n) ≡ list_any q (range_with_len a n)
+any_alike p q a zero agree = refl
+any_alike p q a (suc n) agree = rw (agree a (omega arith), any_alike p q (a + 1) n (λ o below. agree o (omega arith))) refl
 
 -- ## how many numbers below n are in a set
 
@@ -173,7 +173,7 @@ rounds_end edge bound set m o enough =
 
 widened_agree : (edge other : Graph) (bound : ℕ) (a b : ℕ → Bool) (o : ℕ) → ((p : ℕ) → p < bound → edge p o ≡ other p o) → ((p : ℕ) → p < bound → a p ≡ b p) → a o ≡ b o → widened edge bound a o ≡ widened other bound b o
 widened_agree edge other bound a b o edges sets here =
-    rw (here, any_agree (λ p. a p && edge p o) (λ p. b p && other p o) 0 bound (λ p within. rw (edges p (omega arith), sets p (omega arith)) refl)) refl
+    rw (here, any_alike (λ p. a p && edge p o) (λ p. b p && other p o) 0 bound (λ p within. rw (edges p (omega arith), sets p (omega arith)) refl)) refl
 
 -- graphs whose edges from below the bound agree, and sets that agree
 pub rounds_agree : (n : ℕ) (edge other : Graph) (bound : ℕ) (a b : ℕ → Bool) → ((p o : ℕ) → p < bound → edge p o ≡ other p o) → ((o : ℕ) → a o ≡ b o) → (o : ℕ) → rounds n edge bound a o ≡ rounds n other bound b o
@@ -210,7 +210,7 @@ any_of_union p q (x ∷ xs) = rw (any_of_union p q xs) (regrouped (p x) (q x) (l
 
 widened_union : (edge : Graph) (bound : ℕ) (a b : ℕ → Bool) (o : ℕ) → widened edge bound (λ q. a q || b q) o ≡ (widened edge bound a o || widened edge bound b o)
 widened_union edge bound a b o =
-    rw (any_agree (λ p. (a p || b p) && edge p o) (λ p. (a p && edge p o) || (b p && edge p o)) 0 bound (λ p within. shared (a p) (b p) (edge p o)), any_of_union (λ p. a p && edge p o) (λ p. b p && edge p o) (range_with_len 0 bound))
+    rw (any_alike (λ p. (a p || b p) && edge p o) (λ p. (a p && edge p o) || (b p && edge p o)) 0 bound (λ p within. shared (a p) (b p) (edge p o)), any_of_union (λ p. a p && edge p o) (λ p. b p && edge p o) (range_with_len 0 bound))
     (regrouped (a o) (b o) (list_any (λ p. a p && edge p o) (range_with_len 0 bound)) (list_any (λ p. b p && edge p o) (range_with_len 0 bound)))
 
 pub rounds_of_union : RoundsOfUnion
@@ -219,3 +219,35 @@ rounds_of_union edge bound a b (suc n) o =
     widened_agree edge edge bound (rounds n edge bound (λ q. a q || b q)) (λ q. rounds n edge bound a q || rounds n edge bound b q) o
     (λ p within. refl) (λ p within. rounds_of_union edge bound a b n p) (rounds_of_union edge bound a b n o)
     ∙ widened_union edge bound (rounds n edge bound a) (rounds n edge bound b) o
+
+-- ## the rounds of the numbers of a set, each for itself
+
+rounds_of_none : (n : ℕ) (edge : Graph) (bound o : ℕ) → rounds n edge bound (λ q. false) o ≡ false
+rounds_of_none n edge bound o =
+    false_from_ne_true (rounds n edge bound (λ q. false) o) (rounds_each (λ q. ⊥) n edge bound (λ q. false) (λ q is. false≢true is) (λ p q within none to. none) o)
+
+rounds_of_one : (n : ℕ) (edge : Graph) (bound q o : ℕ) (b : Bool) → rounds n edge bound (λ r. b && eqb r q) o ≡ (b && rounds n edge bound (λ r. eqb r q) o)
+rounds_of_one n edge bound q o true = refl
+rounds_of_one n edge bound q o false = rounds_of_none n edge bound o
+
+rounds_of_listed : (n : ℕ) (edge : Graph) (bound : ℕ) (set : ℕ → Bool) (qs : List ℕ) (o : ℕ) → rounds n edge bound (λ r. list_any (λ q. set q && eqb r q) qs) o ≡ list_any (λ q. set q && rounds n edge bound (λ r. eqb r q) o) qs
+rounds_of_listed n edge bound set [] o = rounds_of_none n edge bound o
+rounds_of_listed n edge bound set (q ∷ qs) o =
+    rounds_of_union edge bound (λ r. set q && eqb r q) (λ r. list_any (λ p. set p && eqb r p) qs) n o ∙ rw (rounds_of_one n edge bound q o (set q), rounds_of_listed n edge bound set qs o) refl
+
+listed : (set : ℕ → Bool) (bound o : ℕ) → o < bound → set o ≡ list_any (λ q. set q && eqb o q) (range_with_len 0 bound)
+listed set bound o within = same_from_decides (set o) (list_any (λ q. set q && eqb o q) (range_with_len 0 bound)) (λ is. is, λ is. is) (there, back)
+  where
+    there : list_any (λ q. set q && eqb o q) (range_with_len 0 bound) ≡ true → set o ≡ true
+    there is =
+        let found = any_in (λ q. set q && eqb o q) bound is in
+        let both = and_parts (set found.0) (eqb o found.0) found.2 in
+        ap set (eqb-true o found.0 both.1) ∙ both.0
+
+    back : set o ≡ true → list_any (λ q. set q && eqb o q) (range_with_len 0 bound) ≡ true
+    back is = any_below (λ q. set q && eqb o q) bound o within (and_from (set o) (eqb o o) is (eq-eqb o o refl))
+
+pub rounds_of_members : (n : ℕ) (edge : Graph) (bound : ℕ) (set : ℕ → Bool) (o : ℕ) → o < bound → rounds n edge bound set o ≡ list_any (λ q. set q && rounds n edge bound (λ r. eqb r q) o) (range_with_len 0 bound)
+rounds_of_members n edge bound set o within =
+    rounds_agree_below n edge edge bound set (λ r. list_any (λ q. set q && eqb r q) (range_with_len 0 bound)) (λ p q before after. refl) (listed set bound) o within
+    ∙ rounds_of_listed n edge bound set (range_with_len 0 bound) o

@@ -14,7 +14,7 @@ use Rattle.heap_core.specs.Outcomes.{in_bits, number, flag, with_value, is_out, 
 use Rattle.heap_core.specs.Heap.{Heap}
 use Rattle.heap_core.specs.Eval.{over}
 use Rattle.heap_core.specs.Kinded.{is_of_sort, Settles}
-use Rattle.heap_core.proofs.Closure.{any_below}
+use Rattle.heap_core.proofs.Closure.{any_below, any_alike}
 
 -- ## values and numbers
 
@@ -117,11 +117,6 @@ most_at f (suc n) o low =
     ]
 
 -- tests that are alike at the numbers of a range
-any_alike : (p q : ℕ → Bool) (a n : ℕ) → ((o : ℕ) → o < a + n → p o ≡ q o) → list_any p (range_with_len a n) ≡ list_any q (range_with_len a n)
-any_alike p q a zero same = refl
-any_alike p q a (suc n) same =
-    rw (same a (omega arith), any_alike p q (a + 1) n (λ o low. same o (omega (arith, low)))) refl
-
 all_alike : (p q : ℕ → Bool) (a n : ℕ) → ((o : ℕ) → o < a + n → p o ≡ q o) → list_all p (range_with_len a n) ≡ list_all q (range_with_len a n)
 all_alike p q a zero same = refl
 all_alike p q a (suc n) same =
@@ -133,7 +128,10 @@ nothing (x ∷ xs) = nothing xs
 
 none_below : (p : ℕ → Bool) (n o : ℕ) → list_any p (range_with_len 0 n) ≡ false → o < n → p o ≡ false
 none_below p n o none low =
-    elim (cases_Bool (p o)) [ inl is ↦ absurd (false≢true (sym none ∙ any_below p n o low is)) | inr is_not ↦ is_not ]
+    elim (cases_Bool (p o)) [
+      | inl is ↦ absurd (false≢true (sym none ∙ any_below p n o low is))
+      | inr is_not ↦ is_not
+    ]
 
 -- what is looked at in the domain alone
 where_true : (b x y : Bool) → (b ≡ true → x ≡ y) → (b && x) ≡ (b && y)

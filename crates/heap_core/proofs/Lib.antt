@@ -10,8 +10,8 @@ pub mod KindedStarts
 pub mod Visiting
 pub mod Closure
 pub mod Reach
-mod RowParts
 pub mod Reached
+mod RowParts
 mod Rows
 mod Judgements
 mod KindedRows

@@ -8,7 +8,9 @@ use no_memory::NoMemory;
 use sqlite_items::{Boxed, Items};
 use std::alloc::Global;
 use std::test::Fail;
-use taco_unit::{ClassDef, Expr, FieldDef, Kind, MethodDef, Name, Op, Quant, Reach, Scope, Stmt, Unit};
+use taco_unit::{
+    ClassDef, Expr, FieldDef, Kind, MethodDef, Name, Op, Quant, Reach, Scope, Stmt, Unit,
+};
 
 /// The fields of class N.
 const V: u8 = 0;

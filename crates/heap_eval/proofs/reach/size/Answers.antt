@@ -6,7 +6,7 @@ use Rattle.heap_core.specs.Posed.{Posed}
 use Rattle.heap_core.specs.Outcomes.{number}
 use Rattle.heap_core.specs.Eval.{reached}
 use Rattle.heap_eval.specs.Environs.{env_of}
-use Rattle.heap_eval.specs.Stages.{is_done, stage_of}
+use Rattle.heap_core.specs.Stages.{is_done, stage_of}
 use Rattle.heap_eval.proofs.Ranges.{count_same}
 use Rattle.heap_eval.proofs.Visiting.{size_of}
 use Rattle.heap_eval.proofs.reach.size.Goals as goal
