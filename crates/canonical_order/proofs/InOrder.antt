@@ -2,7 +2,6 @@
 use Rattle.std.proofs.Common.{◌≡◌, ◌↔◌, ℕ, zero, suc, ◌+◌, ◌<◌, List, [], ◌∷◌, ◌++◌, length, Some, refl, sym, ◌∙◌, ap, subst, arith, append_assoc}
 use Rattle.std.specs.Prelude.{map, flat_map, slice_get, slice_index, Contains, option_to_list}
 use Rattle.std.specs.List.{range_with_len}
-use Rattle.std.proofs.lemmas.Option.{slice_get_within}
 use Rattle.std.proofs.lemmas.List.{length-append, append-nil}
 use Rattle.std.proofs.lemmas.List.Concat.{flat_map-cons}
 use Rattle.std.proofs.lemmas.List.Elements.{Contains-append_left, Contains-append_right}
@@ -15,7 +14,7 @@ use Rattle.heap_core.specs.Posed.{Posed}
 use Rattle.heap_core.specs.Start.{Fits, Reached, root, held}
 use Rattle.canonical_order.specs.Canonical.{cells_of, places, first_place, HoldsEachOnce, IsCanonical}
 use Rattle.canonical_order.specs.Meeting.{met_all, places_in_order}
-use Rattle.canonical_order.proofs.Counting.{slice_get-range, range_at}
+use Rattle.canonical_order.proofs.Counting.{range_at}
 use Rattle.canonical_order.proofs.FirstPlaces.{first_within}
 use Rattle.canonical_order.proofs.Meeting.{IsMet, met_rises, rises_met}
 

@@ -1,13 +1,12 @@
 -- A visit may be read off the class-kind fields in the order of the unit: first places in two lists that give
 -- the same objects in the same order compare alike.
-use Rattle.std.proofs.Common.{◌≡◌, ◌↔◌, ℕ, zero, suc, ◌+◌, ◌<◌, ◌≤◌, Bool, true, false, not, cond, List, [], ◌∷◌, ◌++◌, length, Option, Some, None, refl, sym, ◌∙◌, ap, subst, inl, inr, arith, get_or, append-nil}
+use Rattle.std.proofs.Common.{◌≡◌, ℕ, zero, suc, ◌+◌, ◌<◌, Bool, true, false, not, cond, List, [], ◌∷◌, ◌++◌, length, Option, Some, None, refl, sym, ◌∙◌, ap, subst, inl, inr, arith, get_or, append-nil}
 use Rattle.std.specs.Prelude.{◌==◌, nat_lt, map, filter, filter_map, flat_map, position, slice_get, slice_index, option_and_then, option_to_list, is_some}
 use Rattle.std.specs.List.{position_or_len, range_with_len, list_all}
 use Rattle.std.specs.List.Sorted.{IsStrictlyIncreasing}
 use Rattle.std.specs.Option.{option_map_or}
 use Rattle.std.specs.Cmp.Lexicographic.{pointwise}
-use Rattle.std.proofs.lemmas.Bool.{false≢true, cases_Bool, cases_eq, cases_lt, eqb-true, eq-eqb, ne_eqb, and_parts}
-use Rattle.std.proofs.lemmas.Grind.{flat_map-append}
+use Rattle.std.proofs.lemmas.Bool.{false≢true, cases_Bool, cases_lt, eqb-true, eq-eqb, and_parts}
 use Rattle.std.proofs.lemmas.List.{length-map}
 use Rattle.std.proofs.lemmas.List.Concat.{flat_map-cons}
 use Rattle.std.proofs.lemmas.List.Folds.{list_any_at}
@@ -22,7 +21,7 @@ use Rattle.taco_unit.specs.declared.unit.ClassDef.{ClassDef}
 use Rattle.taco_unit.specs.declared.unit.FieldDef.{FieldDef}
 use Rattle.taco_unit.specs.Kinds.{is_class_kind}
 use Rattle.taco_unit.specs.Parts.{Parts}
-use Rattle.taco_unit.specs.Well.{IsWell, fields_of}
+use Rattle.taco_unit.specs.Well.{IsWell}
 use Rattle.heap_core.specs.declared.value.Value.{Value}
 use Rattle.heap_core.specs.declared.value.Value.TheVariants.{Null, Obj, Num, Flag}
 use Rattle.heap_core.specs.declared.value.Object.{Object}
@@ -35,9 +34,9 @@ use Rattle.heap_core.specs.Heap.{Heap, field, cell_of, place_of, declares}
 use Rattle.heap_core.specs.Start.{Fits, has_kind, has_field_kind, is_whole}
 use Rattle.heap_core.proofs.Lists.{all_at, place_found}
 use Rattle.heap_core.proofs.GivenFields.{declares_own, field_at}
-use Rattle.canonical_order.specs.Canonical.{cells_of, places, first_place, IsVisit}
+use Rattle.canonical_order.specs.Canonical.{cells_of, places, first_place}
 use Rattle.canonical_order.specs.Tuples.{is_link, links_of}
-use Rattle.canonical_order.specs.Links.{links_at, link_places, first_link, IsVisitByLinks, VisitsByLinks}
+use Rattle.canonical_order.specs.Links.{links_at, link_places, first_link, VisitsByLinks}
 use Rattle.canonical_order.proofs.Rising.{rises_over}
 
 -- ## first places of the same objects in the same order

@@ -1,5 +1,5 @@
 -- What going along the places breadth first puts into the list is the visit of a start that fits.
-use Rattle.std.proofs.Common.{◌≡◌, ℕ, zero, suc, ◌+◌, ◌<◌, ◌≤◌, Bool, true, false, cond, eqb, not, ◌&&◌, List, [], ◌∷◌, ◌++◌, length, Option, Some, None, refl, sym, ◌∙◌, ap, subst, inl, inr, ◌⊎◌, arith, take, append_assoc, get_or}
+use Rattle.std.proofs.Common.{◌≡◌, ℕ, zero, suc, ◌+◌, ◌<◌, ◌≤◌, Bool, true, false, cond, eqb, not, ◌&&◌, List, [], ◌∷◌, ◌++◌, length, Option, Some, None, refl, sym, ◌∙◌, ap, subst, inl, inr, arith, take, append_assoc, get_or}
 use Rattle.std.specs.Prelude.{map, flat_map, fold, nat_lt, ◌==◌, slice_get, slice_index, Contains, option_to_list}
 use Rattle.std.specs.List.{range_with_len, list_any, AllByRecursion, IsDistinct}
 use Rattle.std.specs.Cmp.{IsEquivalence}

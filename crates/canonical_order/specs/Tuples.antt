@@ -1,6 +1,6 @@
 -- The tuples of a problem. (This project's own; the TACO article, "Computing Tight Field Bounds", gives the
 -- purpose: a tuple that no canonical heap holds may be left out.)
-use Rattle.std.specs.Prelude.{not, ◌+◌, ℕ, zero, suc, ◌==◌, Bool, true, false, List, [], ◌∷◌, ◌++◌, length, map, filter, flat_map, slice_get, IsTrue}
+use Rattle.std.specs.Prelude.{not, ◌+◌, ℕ, zero, suc, Bool, false, List, [], ◌∷◌, ◌++◌, length, map, filter, flat_map, slice_get, IsTrue}
 use Rattle.std.specs.List.{range_with_len}
 use Rattle.std.specs.Option.{option_map_or}
 use Rattle.taco_unit.specs.declared.unit.MethodDef.{MethodDef}

@@ -1,29 +1,26 @@
 -- Laws of fields: what a write and a new object change of a heap, and what a field gives.
-use Rattle.std.proofs.Common.{◌≡◌, ℕ, zero, suc, ◌<◌, ◌≤◌, ◌+◌, Bool, true, false, not, ◌&&◌, cond, List, [], ◌∷◌, ◌++◌, length, Option, Some, None, refl, sym, ◌∙◌, subst, ap, inl, inr, arith, set, get_or}
-use Rattle.std.specs.Prelude.{◌==◌, nat_lt, if◌then◌else◌, map, position, slice_get, slice_set, option_map, option_and_then, is_some, is_none, IsTrue}
+use Rattle.std.proofs.Common.{◌≡◌, ℕ, ◌<◌, Bool, true, false, ◌&&◌, cond, List, length, Option, Some, None, refl, sym, ◌∙◌, subst, ap, inl, inr, arith, get_or}
+use Rattle.std.specs.Prelude.{◌==◌, nat_lt, if◌then◌else◌, position, slice_get, slice_set, option_map, option_and_then}
 use Rattle.std.specs.List.{list_all}
 use Rattle.std.specs.Option.{option_map_or}
 use Rattle.std.specs.Cmp.Lexicographic.{pointwise}
-use Rattle.std.proofs.lemmas.Bool.{false≢true, cases_Bool, cases_eq, eqb-true, eq-eqb, ne_eqb, and_parts, and_from}
-use Rattle.std.proofs.lemmas.Option.{slice_get_within, slice_get-map, slice_get-get_or, slice_get_past}
-use Rattle.std.proofs.lemmas.List.{length-set, length-append}
+use Rattle.std.proofs.lemmas.Bool.{cases_eq, eqb-true, eq-eqb, ne_eqb}
+use Rattle.std.proofs.lemmas.Option.{slice_get_within, slice_get-get_or}
+use Rattle.std.proofs.lemmas.List.{length-set}
 use Rattle.std.proofs.lemmas.List.Quantifiers.{position-Some}
 use Rattle.taco_unit.specs.declared.unit.ClassDef.{ClassDef}
 use Rattle.taco_unit.specs.declared.unit.FieldDef.{FieldDef}
 use Rattle.taco_unit.specs.declared.kind.Kind.{Kind}
 use Rattle.taco_unit.specs.declared.kind.Kind.TheVariants as kind
 use Rattle.taco_unit.specs.Parts.{Parts}
-use Rattle.taco_unit.specs.Well.{IsWell, fields_of}
 use Rattle.heap_core.specs.declared.value.Value.{Value}
 use Rattle.heap_core.specs.declared.value.Value.TheVariants.{Null, Obj, Num, Flag}
 use Rattle.heap_core.specs.declared.value.Object.{Object}
-use Rattle.heap_core.specs.declared.value.Seen.{Seen}
-use Rattle.heap_core.specs.declared.value.Seen.TheVariants.{Is, Bad, Out}
-use Rattle.heap_core.specs.Posed.{Posed}
-use Rattle.heap_core.specs.Outcomes.{value_in, zero_of, in_bits, is_bad, is_out}
-use Rattle.heap_core.specs.Heap.{Heap, is_of, class_at, place_of, declares, cell, cell_of, field, put, put_cell, first_value, blank, has_room, grown}
+use Rattle.heap_core.specs.declared.value.Seen.TheVariants.{Is}
+use Rattle.heap_core.specs.Outcomes.{value_in}
+use Rattle.heap_core.specs.Heap.{Heap, is_of, class_at, place_of, cell, cell_of, field, put, put_cell}
 use Rattle.heap_core.specs.Start.{has_kind, has_field_kind, is_whole}
-use Rattle.heap_core.proofs.Lists.{set_at, set_apart, all_at, all_from, beside, beside_set, beside_more, beside_map}
+use Rattle.heap_core.proofs.Lists.{set_at, set_apart, all_at, all_from, beside_set, beside_more}
 
 pub none_some : {A : Type 0} {x : A} → None ≡ Some x → ⊥
 none_some is = absurd (cc)

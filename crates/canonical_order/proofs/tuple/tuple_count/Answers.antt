@@ -1,4 +1,4 @@
-use Rattle.std.proofs.Common.{◌≡◌, ◌+◌, ◌*◌, length, Some, sym, ◌∙◌, subst}
+use Rattle.std.proofs.Common.{◌≡◌, ◌+◌, ◌*◌, length, Some, sym, subst}
 use Rattle.heap_core.specs.Posed.{Posed}
 use Rattle.heap_core.specs.Start.{method_of}
 use Rattle.canonical_order.specs.Tuples.{tuples, roots_of, links_of}
