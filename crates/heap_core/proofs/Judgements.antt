@@ -206,10 +206,14 @@ locals_in_order : judged declares (start [] v.Null (v.Num (pos 5) ∷ [])) ≡ M
 locals_in_order = simp (eval_forms, code_forms, exec_forms) refl
 
 -- ## class N { void run(nullable N t, int k) { t.m(k + 1); } void m(int k) { } }
+abbrev run_and_m : List MethodDef
+run_and_m =
+    method_with false (param_of (Ref 0) true ∷ param_of Int false ∷ []) None [] [] [] (s.Block (s.Run (call_on 1 (e.Local 0) (e.Bin op.Add (e.Local 1) (e.Num (pos 1)) ∷ [])) ∷ []))
+    ∷ method_with false (param_of Int false ∷ []) None [] [] [] (s.Block [])
+    ∷ []
+
 abbrev calls_on : Posed
-calls_on =
-    unit_of [] []
-    (method_with false (param_of (Ref 0) true ∷ param_of Int false ∷ []) None [] [] [] (s.Block (s.Run (call_on 1 (e.Local 0) (e.Bin op.Add (e.Local 1) (e.Num (pos 1)) ∷ [])) ∷ [])) ∷ method_with false (param_of Int false ∷ []) None [] [] [] (s.Block []) ∷ [])
+calls_on = unit_of [] [] run_and_m
 
 -- an argument that leaves the scope comes before the test of the target for null
 argument_before_null : judged calls_on (with_args [] (v.Null ∷ v.Num (pos 7) ∷ [])) ≡ Outside
@@ -220,12 +224,14 @@ target_throws : judged calls_on (with_args [] (v.Null ∷ v.Num (pos 6) ∷ []))
 target_throws = simp (code_forms, exec_forms) refl
 
 -- ## class N { nullable N next; int g() { return next.g(); } void run() { int x = g(); next = this; } }
+abbrev g_and_run : List MethodDef
+g_and_run =
+    method_of (Some (Int, false)) [] (s.Return (Some (e.Call (call_on 0 (own 0) []))) ∷ [])
+    ∷ method_with false [] None (Int ∷ []) [] [] (s.Block (s.Set 0 (e.Call (call_on 0 e.This [])) ∷ s.Write e.This 0 e.This ∷ []))
+    ∷ []
+
 abbrev gets : Posed
-gets =
-    record (unit_of [] (link ∷ [])
-    (method_of (Some (Int, false)) [] (s.Return (Some (e.Call (call_on 0 (own 0) []))) ∷ []) ∷ method_with false [] None (Int ∷ []) [] [] (s.Block (s.Set 0 (e.Call (call_on 0 e.This [])) ∷ s.Write e.This 0 e.This ∷ [])) ∷ [])) {
-      method = 1;
-    }
+gets = record (unit_of [] (link ∷ []) g_and_run) { method = 1 }
 
 -- what a called method throws ends the run of its caller, so that `next` is not set
 call_throws : judged gets (alone (v.Null ∷ [])) ≡ Breaks part.Thrown
