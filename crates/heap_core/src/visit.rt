@@ -18,7 +18,7 @@ pub enum Stage {
     Done,
 }
 
-/// Comes upon a value: an object that was not come upon waits now. Takes no memory.
+/// Comes upon a value: an object that was not come upon waits now. Takes constant time and no memory.
 pub fn find(stages: &mut [Stage], value: Value)
     ensures { stages.new ≡ found stages.old value }
 {
@@ -39,7 +39,7 @@ fn find_all(stages: &mut [Stage], values: &[Value])
     }
 }
 
-/// The number of the first object that waits. Linear in the stages. Takes no memory.
+/// The number of an object that waits, if there is one. Linear in the stages. Takes no memory.
 pub fn next(stages: &[Stage]) -> Option<usize>
     ensures none { IfNone result ((o : ℕ) → is_waiting (stage_of stages.now o) ≡ false) }
     ensures some { IfSome result (λ o. (o < length stages.now) × (is_waiting (stage_of stages.now o) ≡ true)) }
