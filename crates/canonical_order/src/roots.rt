@@ -4,8 +4,9 @@ ghost use Rattle.canonical_order.specs.Tuples.{is_root as is_root_lem, is_link a
 
 use taco_unit::{FieldDef, Kind, MethodDef, Unit};
 
-/// Whether the receiver (0) or the parameter of this number, counted from 1, is a root.
-fn is_root(method: &MethodDef, root: usize) -> bool
+/// Whether the receiver (0) or the parameter of this number, counted from 1, is a root: the receiver is
+/// one unless the method is static, a parameter where it is of class kind. Takes no memory.
+pub fn is_root(method: &MethodDef, root: usize) -> bool
     ensures { result ≡ is_root_lem method.now root }
 {
     if root == 0 {
@@ -17,8 +18,8 @@ fn is_root(method: &MethodDef, root: usize) -> bool
     }
 }
 
-/// Whether the field of this number is of class kind.
-fn is_link(unit: &Unit, field: usize) -> bool
+/// Whether the field of this number is of class kind. Takes no memory.
+pub fn is_link(unit: &Unit, field: usize) -> bool
     ensures { result ≡ is_link_lem unit.now field }
 {
     match unit.fields.as_slice().get(field) {
