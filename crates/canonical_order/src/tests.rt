@@ -4,12 +4,12 @@ ghost use Rattle.taco_unit.specs.declared.stmt.Stmt.TheVariants.{Block};
 ghost use Rattle.canonical_order.specs.Canonical.{HoldsEachOnce};
 
 use super::*;
-use heap_core::{Object, Problem, Scope, Start, Value};
+use heap_core::{Object, Problem, Start, Value};
 use no_memory::NoMemory;
 use sqlite_items::Items;
 use std::alloc::Global;
 use std::test::Fail;
-use taco_unit::{ClassDef, MethodDef, Name, Stmt, Unit};
+use taco_unit::{ClassDef, MethodDef, Name, Scope, Stmt, Unit};
 
 /// A class with the method 0.
 fn class_with_method(alloc: Global) -> Result<Items<ClassDef>, NoMemory>

@@ -1,7 +1,7 @@
 use Rattle.std.proofs.Common.{◌≡◌, ℕ, ◌≤◌, ap, sym, ◌∙◌, arith}
 use Rattle.std.specs.Prelude.{count_by, pos}
 use Rattle.std.specs.List.{range_with_len}
-use Rattle.heap_core.specs.declared.problem.Scope.{Scope}
+use Rattle.taco_unit.specs.declared.scope.Scope.{Scope}
 use Rattle.heap_core.specs.Posed.{Posed}
 use Rattle.heap_core.specs.Outcomes.{number}
 use Rattle.heap_core.specs.Eval.{reached}
@@ -16,7 +16,7 @@ returns-in-Null c =
     let env = env_of c.args.env in
     let set = reached env c.args.fields.now c.args.from in
     let problem : c.problem.inside.scope ≡ c.args.env.problem.now.scope = ap (λ (p : Posed). p.scope) c.problem.view_is in
-    let few : c.problem.inside.scope.objects ≤ 256 = omega (arith, c.problem.invariant.objects_high) in
+    let few : c.problem.inside.scope.objects ≤ 256 = omega (arith, c.problem.invariant.scope.objects_high) in
     let first : count_by (λ o. is_done (stage_of c.visit.new.stages o)) (range_with_len 0 c.problem.inside.scope.objects) ≡ count_by set (range_with_len 0 c.problem.inside.scope.objects) =
     count_same (λ o. is_done (stage_of c.visit.new.stages o)) set 0 c.problem.inside.scope.objects (λ o below. c.visit.ensures o (omega (arith, below, few)))
     in

@@ -34,5 +34,5 @@ pub returns : goal.returns
 returns c =
     let env = env_of c.args.env in
     let objects : c.problem.inside.scope.objects ≡ env.objects = ap (λ (p : Posed). p.scope.objects) c.problem.view_is in
-    let small : length env.heap ≤ 256 = omega (arith, objects, c.requires.within.now, c.problem.invariant.objects_high) in
+    let small : length env.heap ≤ 256 = omega (arith, objects, c.requires.within.now, c.problem.invariant.scope.objects_high) in
     done_reached env c.args.fields.now c.args.from c.loop-object.stages small c.loop-object.invariant c.in_default.ensures.none

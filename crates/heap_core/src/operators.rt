@@ -2,7 +2,7 @@ ghost use Rattle.std.specs.Prelude.{◌≡◌, ◌≤◌};
 ghost use Rattle.heap_core.specs.Outcomes.{with_value, same as same_lem, opposite as opposite_lem, equivalent as equivalent_lem, operated as operated_lem};
 
 use crate::numbers::{flag, number};
-use heap_core::{Seen, Value};
+use crate::value::{Seen, Value};
 use taco_unit::Op;
 
 /// Whether two values of one kind are the same. `Out` for values of two kinds.

@@ -1,12 +1,13 @@
-ghost use Rattle.std.specs.Prelude.{◌≡◌, ◌==◌, ◌≤◌, Some, None, false, IfOk, IfErr, IfSome, IfNone, option_map, length, map, nat_lt, position, slice_get, slice_set, option_and_then, if◌then◌else◌};
-ghost use Rattle.heap_core.specs.Heap.{field as field_lem, cell, place_of as place_of_lem, put, first_value as first_value_lem, grown};
+ghost use Rattle.std.specs.Prelude.{◌≡◌, ◌≤◌, Some, None, false, IfOk, IfErr, IfSome, IfNone, option_map, length, map, nat_lt, slice_get, slice_set, option_and_then, if◌then◌else◌};
+ghost use Rattle.heap_core.specs.Heap.{field as field_lem, cell, put, first_value as first_value_lem, grown};
 
 use crate::numbers::zero_of;
-use heap_core::{Object, Problem, Seen, Value};
+use crate::problem::Problem;
+use crate::value::{Object, Seen, Value, place_of};
 use no_memory::NoMemory;
 use sqlite_items::{Items, at};
 use std::alloc::Global;
-use taco_unit::{ClassDef, FieldDef, Unit};
+use taco_unit::{FieldDef, Unit};
 
 /// The value of a field of the object of this number, where the heap has the object and its class
 /// declares the field. Linear in the class's fields. Takes no memory.
@@ -35,23 +36,6 @@ pub fn field(unit: &Unit, heap: &[Object], field: u8, value: Value) -> Seen
             None => Seen::Bad,
         },
         _ => Seen::Out,
-    }
-}
-
-/// The place of a field among those of a class.
-fn place_in(fields: &[u8], field: u8) -> Option<usize>
-    ensures { result ≡ position (λ g. g == field) fields.now }
-{
-    fields.iter().position(|g| *g == field)
-}
-
-/// The place of a field among the cells of the objects of a class.
-fn place_of(classes: &[ClassDef], class: u8, field: u8) -> Option<usize>
-    ensures { result ≡ place_of_lem classes.now class field }
-{
-    match at(classes, usize::from(class)) {
-        Some(d) => place_in(d.fields.as_slice(), field),
-        None => None,
     }
 }
 

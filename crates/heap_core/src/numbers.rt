@@ -1,11 +1,11 @@
 ghost use Rattle.std.specs.Prelude.{◌≡◌, ◌≤◌};
 ghost use Rattle.heap_core.specs.Outcomes.{in_bits as in_bits_lem, number as number_lem, flag as flag_lem, zero_of as zero_of_lem, negative as negative_lem};
 
-use heap_core::{Seen, Value};
+use crate::value::{Seen, Value};
 use taco_unit::Kind;
 
 /// Whether the number lies in two's complement of this many bits.
-fn in_bits(ints: u8, number: i64) -> bool
+pub(crate) fn in_bits(ints: u8, number: i64) -> bool
     requires low { 2 ≤ ints }
     requires high { ints ≤ 16 }
     ensures { result ≡ in_bits_lem ints number }

@@ -1,7 +1,7 @@
 use Rattle.std.proofs.Common.{◌≡◌, ◌<◌, length, Some, ap, ◌∙◌, arith, get_or}
 use Rattle.std.proofs.lemmas.Option.{slice_get-get_or}
 use Rattle.taco_unit.specs.Parts.{Parts}
-use Rattle.canonical_order.proofs.roots.method_at.Goals as goal
+use Rattle.heap_core.proofs.problem.method_at.Goals as goal
 
 pub returns-clause-few : goal.returns-clause-few
 returns-clause-few c =
