@@ -1,7 +1,7 @@
 use Rattle.std.proofs.Common.{◌≡◌, ◌+◌, ◌++◌, drop, flat_map}
 use Rattle.std.specs.List.{enumerate_from}
-use Rattle.taco_run.specs.Texts.{literal_word}
-use Rattle.taco_run.proofs.texts.add_literals.Given as goal
+use Rattle.taco_report.specs.FormulaTexts.{literal_word}
+use Rattle.taco_report.proofs.formula.add_literals.Given as goal
 
 -- the literals so far, and then those of what is left, are those of all
 abbrev pub invariant-loop-i : goal.invariant-loop-i

@@ -1,8 +1,8 @@
 use Rattle.std.proofs.Common.{◌≡◌, ◌+◌, ◌++◌, Bool, List, [], ℕ, drop, flat_map, sym, ap, ◌∙◌, arith, append-nil}
 use Rattle.std.proofs.Math.ListN.{drop_of_length-le}
 use Rattle.std.specs.List.{enumerate_from}
-use Rattle.taco_run.specs.Texts.{literal_word}
-use Rattle.taco_run.proofs.texts.add_literals.Goals as goal
+use Rattle.taco_report.specs.FormulaTexts.{literal_word}
+use Rattle.taco_report.proofs.formula.add_literals.Goals as goal
 
 pub returns : goal.returns
 returns c =
