@@ -1,4 +1,5 @@
 pub mod Arena
 pub mod Clauses
 pub mod Literal
+pub mod Trues
 pub mod Truth

@@ -5,6 +5,7 @@ pub mod Headers
 pub mod LineTexts
 pub mod Literals
 pub mod LogAgain
+pub mod LogHints
 pub mod LogLemmas
 pub mod LogWords
 pub mod Marked

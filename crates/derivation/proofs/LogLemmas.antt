@@ -1,12 +1,12 @@
 -- Logs one line longer.
-use Rattle.std.proofs.Common.{◌≡◌, ◌≢◌, ℕ, All, inl, inr, ◌+◌, ◌==◌, not, ◌<◌, length, take, get_or, Bool, true, false, ◌&&◌, List, [], ◌∷◌, ◌++◌, refl, sym, ap, ◌∙◌}
+use Rattle.std.proofs.Common.{◌≡◌, ◌≢◌, ℕ, suc, All, inl, inr, ◌+◌, ◌==◌, not, ◌<◌, length, length-take, take, drop, take-append-drop, drop-cons, get_or, arith, Bool, true, false, ◌&&◌, List, [], ◌∷◌, ◌++◌, refl, sym, ap, ◌∙◌}
 use Rattle.std.proofs.lemmas.List.{append_assoc, append-nil, take_more, nil_from_length}
 use Rattle.std.proofs.lemmas.List.Folds.{list_any_at}
 use Rattle.std.specs.List.{list_any}
 use Rattle.std.proofs.lemmas.Bool.{and_from, and_parts, or_cases, not-true, false_from_ne_true, false≢true, eqb-true}
 use Rattle.derivation.specs.Step.{Step}
 use Rattle.derivation.specs.Propagation.{follows}
-use Rattle.derivation.specs.Logs.{clauses_of, contains_clause, each_line, fresh, is_new, valid}
+use Rattle.derivation.specs.Logs.{clauses_of, contains_clause, each_line, fresh, is_new, valid, IsFirstBad}
 
 pub each_line-append : (test : List (List ℕ) → Step → Bool) (known : List (List ℕ)) (xs ys : List Step)
     → each_line test known (xs ++ ys) ≡ (each_line test known xs && each_line test (known ++ clauses_of xs) ys)
@@ -29,6 +29,28 @@ pub valid_more : (known : List (List ℕ)) (xs : List Step) (place : ℕ) (y : S
     → valid known (take place xs) ≡ true → follows (known ++ clauses_of (take place xs)) y ≡ true → valid known (take (place + 1) xs) ≡ true
 valid_more known xs place y within is before last =
     ap (valid known) (take_more xs place y within ∙ ap (λ z. take place xs ++ z ∷ []) (sym is)) ∙ valid_push known (take place xs) y before last
+
+-- a line at a place of a list of lines is the first bad one
+pub bad_at : (clauses : List (List ℕ)) (steps : List Step) (place : ℕ) (y : Step) → place < length steps → y ≡ get_or steps place y
+    → valid clauses (take place steps) ≡ true → follows (clauses ++ clauses_of (take place steps)) y ≡ false → IsFirstBad clauses steps (place + 1)
+bad_at clauses steps place y within is before refused =
+    record {
+      front = take place steps;
+      line = y;
+      rest = drop (suc place) steps;
+      parts = sym (take-append-drop place steps) ∙ ap (λ zs. take place steps ++ zs) (drop-cons steps place y within ∙ ap (λ z. z ∷ drop (suc place) steps) (sym is));
+      place = omega (arith, length-take place steps);
+      before = before;
+      bad = λ followed. false≢true (sym refused ∙ followed);
+    }
+
+-- no line of a valid log is bad
+pub none_bad : (clauses : List (List ℕ)) (steps : List Step) (n : ℕ) → valid clauses steps ≡ true → IsFirstBad clauses steps n → ⊥
+none_bad clauses steps n is_valid bad =
+    let known : List (List ℕ) = clauses ++ clauses_of bad.front in
+    let parts : (valid clauses bad.front ≡ true) × ((follows known bad.line && valid (known ++ bad.line.clause ∷ []) bad.rest) ≡ true) =
+    and_parts (valid clauses bad.front) _ (sym (each_line-append follows clauses bad.front (bad.line ∷ bad.rest)) ∙ ap (valid clauses) (sym bad.parts) ∙ is_valid) in
+    bad.bad (and_parts (follows known bad.line) _ parts.1).0
 
 -- a line of a fresh log that is not empty contains no clause known before it
 pub fresh_apart : (clauses : List (List ℕ)) (front : List Step) (later : Step) (rest : List Step) → fresh clauses (front ++ later ∷ rest) ≡ true → later.clause ≢ []

@@ -8,7 +8,7 @@ use Rattle.std.proofs.lemmas.Str.Parse.{IsNumeralModel, numerals_by_value, tells
 use Rattle.std.proofs.lemmas.Fmt.{first_decimal, digits_decimal, decimal_digit, decimal-digits_value}
 use Rattle.std.specs.Int.{IsInRange}
 
-pub own : IsNumeralModel (AllDigits 10) (digits_value 10)
+own : IsNumeralModel (AllDigits 10) (digits_value 10)
 own = numerals_by_value (AllDigits 10) tells_digits
 
 -- each byte of a number is a digit

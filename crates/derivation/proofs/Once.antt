@@ -5,7 +5,8 @@ use Rattle.std.proofs.lemmas.List.Folds.{list_any-append}
 use Rattle.std.proofs.lemmas.Bool.Decides.{nat_tests}
 use Rattle.std.specs.List.{list_any, list_all}
 use Rattle.cnf_core.specs.Literal.{negated}
-use Rattle.derivation.specs.Propagation.{is_true, once}
+use Rattle.cnf_core.specs.Trues.{is_true}
+use Rattle.derivation.specs.Propagation.{once}
 
 -- whether each literal in turn has no value yet, where those before it are made false
 abbrev pub apart : List ℕ → List ℕ → Bool

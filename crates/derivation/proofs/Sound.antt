@@ -10,7 +10,8 @@ use Rattle.cnf_core.specs.Truth.{lit_holds, clause_holds, clauses_hold, IsUnsati
 use Rattle.derivation.specs.Step.{Step}
 use Rattle.derivation.specs.declared.effect.Effect.{Effect}
 use Rattle.derivation.specs.declared.effect.Effect.TheVariants.{Conflicts, Forces, Fails}
-use Rattle.derivation.specs.Propagation.{is_true, not_false, effect_by, effect_of, is_hint, hinted, goes_on, ends, once, follows}
+use Rattle.cnf_core.specs.Trues.{is_true}
+use Rattle.derivation.specs.Propagation.{not_false, effect_by, effect_of, is_hint, hinted, goes_on, ends, once, follows}
 use Rattle.derivation.specs.Logs.{clauses_of, valid, ends_empty}
 
 same_half : (lit : ℕ) → negated lit / 2 ≡ lit / 2

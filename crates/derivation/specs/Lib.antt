@@ -3,7 +3,6 @@ pub mod Cuts
 pub mod Entry
 pub mod LogText
 pub mod Logs
-pub mod Marks
 pub mod Propagation
 pub mod Reading
 pub mod Runs

@@ -35,6 +35,11 @@ pub record IsLine (vars : ℕ) (step : Step) : Type 0 where
   pub clause : IsClause vars step.clause
   pub hints : AreHints step.hints
 
+-- A line in order: its variables rise, from 1 to vars, and its hints count from 1.
+pub record IsInOrder (vars : ℕ) (step : Step) : Type 0 where
+  pub clause : IsClause vars step.clause
+  pub hints : All (λ hint. 0 < hint) step.hints
+
 -- The text is that of these lines, each one that a text can hold.
 pub record IsLogText (vars : ℕ) (text : List ℕ) (steps : List Step) : Type 0 where
   pub lines : All (IsLine vars) steps

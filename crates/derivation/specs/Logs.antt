@@ -7,7 +7,8 @@ use Rattle.cnf_core.specs.Literal.{IsOver}
 use Rattle.derivation.specs.Step.{Step}
 use Rattle.derivation.specs.declared.fault.CheckFault.{CheckFault}
 use Rattle.derivation.specs.declared.fault.CheckFault.TheVariants.{BadLine, NoMemory}
-use Rattle.derivation.specs.Propagation.{is_true, follows, Follows}
+use Rattle.cnf_core.specs.Trues.{is_true}
+use Rattle.derivation.specs.Propagation.{follows, Follows}
 
 -- the clauses of lines
 abbrev pub clauses_of : List Step → List (List ℕ)

@@ -2,13 +2,10 @@
 use Rattle.std.specs.Prelude.{ℕ, ◌-◌, ◌/◌, ◌==◌, nat_lt, nat_le, Bool, true, false, not, ◌&&◌, List, [], ◌∷◌, ◌++◌, length, map, filter, slice_index_or, IsTrue, if◌then◌else◌}
 use Rattle.std.specs.List.{list_any, list_all}
 use Rattle.cnf_core.specs.Literal.{negated}
+use Rattle.cnf_core.specs.Trues.{is_true}
 use Rattle.derivation.specs.Step.{Step}
 use Rattle.derivation.specs.declared.effect.Effect.{Effect}
 use Rattle.derivation.specs.declared.effect.Effect.TheVariants.{Conflicts, Forces, Fails}
-
--- whether a literal was made true; it is false where its negation was
-abbrev pub is_true : List ℕ → ℕ → Bool
-is_true trues lit = list_any (λ made. made == lit) trues
 
 -- the literals of a clause that are not false
 abbrev pub not_false : List ℕ → List ℕ → List ℕ

@@ -29,6 +29,7 @@ pub fn check(cnf: &Cnf, log: &Log) -> Result<Checked, CheckFault>
     ensures valid { OnOk result (Valid cnf.now.clauses log.now) }
     ensures told { IfOk result (λ checked. (checked.lines ≡ length log.now) × (checked.refuted ≡ ends_empty log.now)) }
     ensures fault { IfErr result (Blames cnf.now.clauses log.now) }
+    ensures only { IfErr result (λ fault. Valid cnf.now.clauses log.now → fault ≡ CheckFault.NoMemory) }
     ensures unsatisfiable { IfOk result (λ checked. IsTrue checked.refuted → IsUnsatisfiable cnf.now.clauses) }
 {
     let lines = log.lines();
@@ -63,8 +64,7 @@ fn does_follow(cnf: &Cnf, before: &[Line], line: &Line, trues: &mut Trues) -> Re
     ensures right { IfOk result (λ answer. answer ≡ follows (cnf.now.clauses ++ clauses_of before.now) line.now) }
     ensures cleared { OnOk result (trues.new ≡ []) }
 {
-    let answer = deny(line.clause.as_slice(), trues)?
-        && do_end(cnf, before, line.hints.as_slice(), trues)?;
+    let answer = deny(line.clause.as_slice(), trues)? && do_end(cnf, before, line.hints(), trues)?;
     trues.clear();
     Ok(answer)
 }

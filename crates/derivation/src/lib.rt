@@ -24,7 +24,7 @@ pub use checker::{Checked, check};
 pub use cnf_reader::read_cnf;
 pub use effect::Effect;
 pub use fault::{CheckFault, TextFault};
-pub use laws::{fresh_lines_are_distinct, what_follows_is_true};
+pub use laws::{fresh_lines_are_distinct, hints_count_from_one, what_follows_is_true};
 pub use line::Line;
 pub use log::Log;
 pub use log_reader::read_log;

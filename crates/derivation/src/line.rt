@@ -1,3 +1,5 @@
+ghost use Rattle.std.specs.Prelude.{◌≡◌, ◌^◌, ◌<◌, All};
+
 use cnf_core::Lit;
 use smallvec::SmallVec;
 use std::marker::Model;
@@ -18,3 +20,20 @@ impl Model for Line {
 
     ghost view = { λ line. record { clause = line.clause.items; hints = line.hints.items } };
 }
+
+impl Line {
+    /// The hints in order.
+    pub(crate) fn hints(&self) -> &[u32]
+        ensures value { result.now ≡ self.now.hints }
+        ensures fit { All (λ hint. hint < 2 ^ 32) result.now }
+    {
+        let hints = self.hints.as_slice();
+        fit(hints);
+        hints
+    }
+}
+
+/// Tells contracts that all numbers of this type fit 32 bits. It does nothing when it runs.
+fn fit(numbers: &[u32])
+    ensures { All (λ number. number < 2 ^ 32) numbers.now }
+{}

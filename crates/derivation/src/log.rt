@@ -1,25 +1,27 @@
-ghost use Rattle.std.specs.Prelude.{◌≡◌, ℕ, ◌^◌, ◌<◌, [], ◌∷◌, ◌++◌, length, OnOk, OnErr};
+ghost use Rattle.std.specs.Prelude.{◌≡◌, ℕ, ◌^◌, ◌<◌, [], ◌∷◌, ◌++◌, All, length, OnOk, OnErr};
+ghost use Rattle.derivation.specs.Step.{HintsFit};
 
 use crate::line::Line;
 use no_memory::NoMemory;
 use std::alloc::Global;
 use std::marker::Model;
 
-/// A log: its lines in order, at most 4294967295. Contracts see it as the list of its lines.
+/// A log: its lines in order, at most 4294967295. Contracts see it as the list of its lines, whose
+/// hints are numbers of 32 bits.
 #[derive(Drop)]
 pub struct Log {
     lines: Vec<Line>,
 }
 
 impl Model for Log {
-    ghost use Rattle.std.specs.Prelude.{List, ◌^◌, ◌<◌, length};
-    ghost use Rattle.derivation.specs.Step.{Step};
+    ghost use Rattle.std.specs.Prelude.{List, ◌^◌, ◌<◌, All, length};
+    ghost use Rattle.derivation.specs.Step.{Step, HintsFit};
 
     ghost Value = { List Step };
 
     ghost view = { λ log. log.lines.items };
 
-    ghost invariant = { λ log. length log.lines.items < 2 ^ 32 };
+    ghost invariant = { λ log. (length log.lines.items < 2 ^ 32) × All HintsFit log.lines.items };
 }
 
 impl Log {
@@ -36,6 +38,7 @@ impl Log {
     pub fn lines(&self) -> &[Line]
         ensures value { result.now ≡ self.now }
         ensures few { length result.now < 2 ^ 32 }
+        ensures fit { All HintsFit result.now }
     {
         self.lines.as_slice()
     }
@@ -45,7 +48,10 @@ impl Log {
     pub fn push(&mut self, line: Line) -> Result<(), NoMemory>
         ensures ok { OnOk result (self.new ≡ self.old ++ line ∷ []) }
         ensures err { OnErr result (self.new ≡ self.old) }
+        ensures fit { HintsFit line }
     {
+        // Contracts learn here that the hints fit 32 bits.
+        let _hints = line.hints();
         if self.lines.as_slice().len() >= u32::MAX as usize {
             return Err(NoMemory);
         }

@@ -7,6 +7,7 @@ use cnf_core::{Cnf, Lit};
 use smallvec::SmallVec;
 use std::alloc::Global;
 use std::test::Fail;
+use std::thread::join;
 
 /// All four clauses over two variables.
 const ALL_FOUR: &[u8] = b"p cnf 2 4\n1 2 0\n-1 2 0\n1 -2 0\n-1 -2 0\n";
@@ -130,5 +131,25 @@ fn variables_beyond_the_formula_are_lawful(rt: HostRuntime) -> Result<(), Fail> 
             refuted: false
         }
     );
+    Ok(())
+}
+
+/// The log once more, read from its text.
+fn copied(alloc: Global, cnf: &Cnf, log: &Log) -> Result<Log, TextFault> {
+    let text = log_text(alloc, log)?;
+    if text.len() > 1000 {
+        return Err(TextFault::BadText { at: 1000 });
+    }
+    read_log(alloc, text.as_slice(), cnf.vars())
+}
+
+#[test]
+fn threads_share_a_log_and_hand_one_back(rt: HostRuntime) -> Result<(), Fail> {
+    let alloc = rt.alloc();
+    let cnf = read_cnf(alloc, ALL_FOUR)?;
+    let log = read_log(alloc, b"2 0 1 2 0\n0 5 3 4 0\n", 2)?;
+    let (other, checked) = join(&rt, || copied(alloc, &cnf, &log), || check(&cnf, &log));
+    assert_eq!(rt; Ok(checked), accepted(2, true));
+    assert_eq!(rt; Ok(check(&cnf, &other?)), accepted(2, true));
     Ok(())
 }

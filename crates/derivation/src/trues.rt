@@ -1,6 +1,5 @@
 ghost use Rattle.std.specs.Prelude.{◌≡◌, ℕ, ◌<◌, false, [], ◌∷◌, ◌++◌, length, slice_index_or, OnOk, OnErr};
-ghost use Rattle.derivation.specs.Marks.{AreMarks};
-ghost use Rattle.derivation.specs.Propagation.{is_true};
+ghost use Rattle.cnf_core.specs.Trues.{is_true, AreMarks};
 
 use cnf_core::Lit;
 use no_memory::NoMemory;
@@ -17,7 +16,7 @@ pub(crate) struct Trues {
 
 impl Model for Trues {
     ghost use Rattle.std.specs.Prelude.{ℕ, List};
-    ghost use Rattle.derivation.specs.Marks.{AreMarks};
+    ghost use Rattle.cnf_core.specs.Trues.{AreMarks};
 
     ghost Value = { List ℕ };
 

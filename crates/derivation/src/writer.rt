@@ -1,7 +1,7 @@
-ghost use Rattle.std.specs.Prelude.{◌≡◌, [], ◌∷◌, ◌++◌, map, IfOk, OnOk, decimal};
+ghost use Rattle.std.specs.Prelude.{◌≡◌, ℕ, [], ◌∷◌, ◌++◌, All, map, IfOk, OnOk, decimal};
 ghost use Rattle.std.specs.List.{flat_map};
 ghost use Rattle.derivation.specs.CnfText.{clause_line, text_of_cnf};
-ghost use Rattle.derivation.specs.LogText.{line_text, text_of_log};
+ghost use Rattle.derivation.specs.LogText.{line_text, text_of_log, IsInOrder, IsLogText};
 ghost use Rattle.derivation.specs.Texts.{literal_text, spaced};
 
 use crate::line::Line;
@@ -14,7 +14,11 @@ use std::alloc::Global;
 /// The text of a log: each line holds its literals, `0`, its hints and `0`, parted by one space, and
 /// a line feed. The cost is the text's length.
 pub fn log_text(alloc: Global, log: &Log) -> Result<Vec<u8>, NoMemory>
-    ensures { IfOk result (λ text. text.items ≡ text_of_log log.now) }
+    ensures written { IfOk result (λ text. text.items ≡ text_of_log log.now) }
+
+    // Where the variables of each line rise, from 1 to vars, and the hints count from 1, this is a text
+    // that `read_log` reads, and as this log.
+    ensures again { IfOk result (λ text. (vars : ℕ) → All (IsInOrder vars) log.now → IsLogText vars text.items log.now) }
 {
     let mut text = Vec::new(alloc);
     for line in log.lines() {
@@ -59,7 +63,7 @@ fn push_line(text: &mut Vec<u8>, line: &Line) -> Result<(), NoMemory>
 {
     push_literals(text, line.clause.as_slice())?;
     text.extend_from_slice(b"0 ")?;
-    push_numbers(text, line.hints.as_slice())?;
+    push_numbers(text, line.hints())?;
     text.extend_from_slice(b"0\n")?;
     Ok(())
 }

@@ -4,7 +4,8 @@ use Rattle.std.specs.List.{list_all}
 use Rattle.cnf_core.specs.Literal.{negated}
 use Rattle.derivation.specs.Propagation.{not_false, effect_by, effect_of}
 use Rattle.derivation.specs.declared.effect.Effect.TheVariants.{Conflicts, Forces, Fails}
-use Rattle.sat_watch.specs.Literals.{is_true, has}
+use Rattle.cnf_core.specs.Trues.{is_true}
+use Rattle.sat_watch.specs.Literals.{has}
 use Rattle.sat_watch.specs.Propagation.{IsFalse, Forces as ForcesLit, IsQuiet}
 
 pub tested : (b : Bool) → (b ≡ true) ⊎ (b ≡ false)

@@ -5,7 +5,8 @@ use Rattle.std.proofs.lemmas.List.{append_assoc, append-nil}
 use Rattle.std.proofs.lemmas.List.Elements.{All-head, All-tail}
 use Rattle.cnf_core.specs.Literal.{negated}
 use Rattle.sat_watch.specs.declared.trail.Entry.{Entry}
-use Rattle.sat_watch.specs.Literals.{is_true, has, AreApart, EachOnce}
+use Rattle.cnf_core.specs.Trues.{is_true}
+use Rattle.sat_watch.specs.Literals.{has, AreApart, EachOnce}
 use Rattle.sat_watch.specs.Trail.{literals, levels, Rises}
 use Rattle.sat_watch.proofs.LiteralLemmas.{tested, equal, unequal, negated-negated, negated-half}
 use Rattle.sat_watch.proofs.TrailLemmas.{rises_up}

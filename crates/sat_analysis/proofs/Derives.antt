@@ -4,7 +4,8 @@ use Rattle.std.proofs.lemmas.Bool.{or_left, or_right, or_cases, false_from_ne_tr
 use Rattle.cnf_core.specs.Literal.{negated}
 use Rattle.derivation.specs.Propagation.{ends, effect_of, hinted, is_hint}
 use Rattle.derivation.specs.declared.effect.Effect.TheVariants.{Conflicts, Forces}
-use Rattle.sat_watch.specs.Literals.{is_true, has}
+use Rattle.cnf_core.specs.Trues.{is_true}
+use Rattle.sat_watch.specs.Literals.{has}
 use Rattle.sat_watch.specs.Propagation.{IsFalse, Forces as ForcesLit}
 use Rattle.sat_watch.proofs.LiteralLemmas.{equal, negated-negated, is_true-append}
 use Rattle.sat_analysis.specs.Reasons.{IsNumberOf, Derives}

@@ -9,7 +9,8 @@ use Rattle.cnf_core.specs.Literal.{negated, IsOver}
 use Rattle.derivation.specs.Step.{Step}
 use Rattle.derivation.specs.Propagation.{once, ends}
 use Rattle.sat_watch.specs.declared.trail.Entry.{Entry}
-use Rattle.sat_watch.specs.Literals.{is_true, has, EachOnce}
+use Rattle.cnf_core.specs.Trues.{is_true}
+use Rattle.sat_watch.specs.Literals.{has, EachOnce}
 use Rattle.sat_watch.specs.Trail.{TrailState, literals, IsSound}
 use Rattle.sat_watch.proofs.LiteralLemmas.{tested, equal, unequal, negated-negated, is_true-append, over_negated}
 use Rattle.sat_watch.proofs.WatchLemmas.{over_has}

@@ -3,7 +3,8 @@ use Rattle.std.proofs.Common.{◌≡◌, ◌≢◌, ℕ, ◌/◌, true, false, e
 use Rattle.std.specs.List.{list_any}
 use Rattle.cnf_core.specs.Literal.{negated}
 use Rattle.derivation.specs.Propagation.{once}
-use Rattle.sat_watch.specs.Literals.{is_true, has, EachOnce, AreApart}
+use Rattle.cnf_core.specs.Trues.{is_true}
+use Rattle.sat_watch.specs.Literals.{has, EachOnce, AreApart}
 use Rattle.sat_watch.proofs.LiteralLemmas.{tested, equal, unequal, negated-negated, same_half}
 use Rattle.sat_watch.proofs.ThreadLemmas.{has-append}
 use Rattle.sat_watch.proofs.VisitLemmas.{apart_both}

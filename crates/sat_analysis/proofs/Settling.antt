@@ -9,7 +9,8 @@ use Rattle.derivation.specs.Propagation.{ends, hinted}
 use Rattle.sat_watch.specs.declared.trail.Entry.{Entry}
 use Rattle.sat_watch.specs.Trail.{TrailState, literals, IsSound}
 use Rattle.sat_watch.specs.Watching.{WatchState}
-use Rattle.sat_watch.specs.Literals.{is_true, has, AreApart}
+use Rattle.cnf_core.specs.Trues.{is_true}
+use Rattle.sat_watch.specs.Literals.{has, AreApart}
 use Rattle.sat_watch.specs.Propagation.{IsFalse, Forces as ForcesLit}
 use Rattle.sat_watch.proofs.LiteralLemmas.{tested, equal, negated-negated, negated-half, over_negated, is_true-append}
 use Rattle.sat_watch.proofs.WatchLemmas.{over_has}

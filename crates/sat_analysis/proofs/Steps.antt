@@ -8,7 +8,8 @@ use Rattle.std.proofs.lemmas.List.Elements.{filter-append, All-take}
 use Rattle.std.proofs.lemmas.Bool.{or_left, or_right, or_cases}
 use Rattle.cnf_core.specs.Literal.{negated}
 use Rattle.sat_watch.specs.declared.trail.Entry.{Entry}
-use Rattle.sat_watch.specs.Literals.{is_true, has, IsOpen, AreApart, EachOnce}
+use Rattle.cnf_core.specs.Trues.{is_true}
+use Rattle.sat_watch.specs.Literals.{has, IsOpen, AreApart, EachOnce}
 use Rattle.cnf_core.specs.Literal.{IsOver}
 use Rattle.sat_watch.specs.Trail.{TrailState, literals, levels, Rises, IsSound}
 use Rattle.sat_watch.specs.Watching.{WatchState}

@@ -3,7 +3,8 @@ use Rattle.std.specs.Prelude.{◌≡◌, ◌≢◌, ℕ, ◌/◌, ◌<◌, ◌�
 use Rattle.cnf_core.specs.Literal.{negated, IsOver}
 use Rattle.derivation.specs.LogText.{IsClause}
 use Rattle.derivation.specs.Propagation.{Follows}
-use Rattle.sat_watch.specs.Literals.{is_true, has, EachOnce}
+use Rattle.cnf_core.specs.Trues.{is_true}
+use Rattle.sat_watch.specs.Literals.{has, EachOnce}
 use Rattle.sat_watch.specs.Trail.{TrailState, literals}
 use Rattle.derivation.specs.Step.{Step}
 

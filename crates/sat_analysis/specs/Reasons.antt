@@ -3,7 +3,8 @@ use Rattle.std.specs.Prelude.{◌≡◌, ℕ, ◌/◌, ◌<◌, ◌⊎◌, true,
 use Rattle.cnf_core.specs.Literal.{negated}
 use Rattle.derivation.specs.Propagation.{is_hint, hinted, ends}
 use Rattle.sat_watch.specs.declared.trail.Entry.{Entry}
-use Rattle.sat_watch.specs.Literals.{is_true, has}
+use Rattle.cnf_core.specs.Trues.{is_true}
+use Rattle.sat_watch.specs.Literals.{has}
 use Rattle.sat_watch.specs.Propagation.{Forces}
 use Rattle.sat_watch.specs.Trail.{literals}
 

@@ -3,7 +3,8 @@ use Rattle.std.specs.Prelude.{◌≡◌, ◌≢◌, ℕ, ◌+◌, ◌*◌, ◌<�
 use Rattle.cnf_core.specs.Literal.{negated}
 use Rattle.derivation.specs.Propagation.{ends}
 use Rattle.sat_watch.specs.declared.trail.Entry.{Entry}
-use Rattle.sat_watch.specs.Literals.{is_true, has}
+use Rattle.cnf_core.specs.Trues.{is_true}
+use Rattle.sat_watch.specs.Literals.{has}
 use Rattle.sat_watch.specs.Propagation.{IsFalse}
 use Rattle.sat_watch.specs.Trail.{TrailState, literals}
 use Rattle.sat_watch.specs.Watching.{WatchState}

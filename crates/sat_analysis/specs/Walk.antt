@@ -2,7 +2,8 @@
 use Rattle.std.specs.Prelude.{◌≡◌, ℕ, ◌+◌, ◌/◌, ◌<◌, ◌==◌, Bool, true, false, ◌&&◌, Option, Some, None, List, ◌++◌, All, length, take, reverse, filter, slice_index}
 use Rattle.cnf_core.specs.Literal.{negated}
 use Rattle.sat_watch.specs.declared.trail.Entry.{Entry}
-use Rattle.sat_watch.specs.Literals.{is_true, has, AreApart}
+use Rattle.cnf_core.specs.Trues.{is_true}
+use Rattle.sat_watch.specs.Literals.{has, AreApart}
 use Rattle.sat_watch.specs.Trail.{literals, levels, Rises}
 use Rattle.sat_analysis.specs.Reasons.{Derives}
 

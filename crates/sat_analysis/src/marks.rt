@@ -1,6 +1,7 @@
 ghost use Rattle.std.specs.Prelude.{◌≡◌, ℕ, ◌+◌, ◌*◌, ◌^◌, ◌<◌, false, [], ◌∷◌, ◌++◌, length, IfOk, OnOk};
 ghost use Rattle.cnf_core.specs.Literal.{IsOver};
-ghost use Rattle.sat_watch.specs.Literals.{has, AreMarks, EachOnce};
+ghost use Rattle.cnf_core.specs.Trues.{AreMarks};
+ghost use Rattle.sat_watch.specs.Literals.{has, EachOnce};
 
 use cnf_core::Lit;
 use no_memory::NoMemory;
@@ -17,7 +18,8 @@ pub struct Marks {
 
 impl Model for Marks {
     ghost use Rattle.std.specs.Prelude.{ℕ, ◌+◌, ◌*◌, ◌≡◌, List, length};
-    ghost use Rattle.sat_watch.specs.Literals.{AreMarks, EachOnce};
+    ghost use Rattle.cnf_core.specs.Trues.{AreMarks};
+    ghost use Rattle.sat_watch.specs.Literals.{EachOnce};
     ghost use Rattle.sat_analysis.specs.Marked.{Marked};
 
     ghost Value = { Marked };

@@ -1,6 +1,7 @@
 ghost use Rattle.std.specs.Prelude.{◌≡◌, ◌≢◌, ℕ, ◌+◌, ◌*◌, ◌/◌, ◌^◌, ◌<◌, ◌||◌, not, true, List, [], ◌∷◌, ◌++◌, length, IfOk, OnOk, IfSome, IsTrue, if◌then◌else◌};
 ghost use Rattle.cnf_core.specs.Literal.{negated};
-ghost use Rattle.sat_watch.specs.Literals.{is_true, has};
+ghost use Rattle.cnf_core.specs.Trues.{is_true};
+ghost use Rattle.sat_watch.specs.Literals.{has};
 ghost use Rattle.sat_watch.specs.Propagation.{IsFalse};
 ghost use Rattle.sat_watch.specs.Trail.{literals, IsSound};
 ghost use Rattle.sat_analysis.specs.Learnt.{level_of};

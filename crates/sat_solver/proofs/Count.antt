@@ -11,7 +11,8 @@ use Rattle.derivation.specs.LogText.{IsClause}
 use Rattle.derivation.specs.Step.{Step}
 use Rattle.derivation.specs.Propagation.{once, follows}
 use Rattle.derivation.specs.Logs.{contains_clause, is_new, fresh, valid}
-use Rattle.sat_watch.specs.Literals.{is_true, has}
+use Rattle.cnf_core.specs.Trues.{is_true}
+use Rattle.sat_watch.specs.Literals.{has}
 use Rattle.sat_watch.proofs.LiteralLemmas.{equal, unequal}
 use Rattle.sat_watch.proofs.WatchLemmas.{over_has}
 

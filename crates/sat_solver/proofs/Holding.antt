@@ -6,12 +6,14 @@ use Rattle.std.proofs.lemmas.List.{append-nil, append_assoc, map-append, get_or-
 use Rattle.std.proofs.lemmas.List.Elements.{All-push, All-cons, All-nil}
 use Rattle.cnf_core.specs.Clauses.{Clauses}
 use Rattle.cnf_core.specs.Literal.{negated, IsOver}
-use Rattle.derivation.specs.LogText.{IsClause}
+use Rattle.derivation.specs.LogText.{IsClause, IsLine}
 use Rattle.derivation.specs.Logs.{clauses_of, is_new, fresh}
-use Rattle.derivation.specs.Step.{Step}
+use Rattle.derivation.specs.Step.{Step, HintsFit}
+use Rattle.derivation.proofs.LogHints.{line_follows}
 use Rattle.derivation.proofs.LogLemmas.{each_line-append, valid_push}
 use Rattle.sat_watch.specs.declared.trail.Entry.{Entry}
-use Rattle.sat_watch.specs.Literals.{is_true, has, IsOpen}
+use Rattle.cnf_core.specs.Trues.{is_true}
+use Rattle.sat_watch.specs.Literals.{has, IsOpen}
 use Rattle.sat_watch.specs.Propagation.{IsFalse, IsQuiet, Forces}
 use Rattle.sat_watch.specs.Trail.{TrailState, literals, levels, up_to, IsSound}
 use Rattle.sat_watch.specs.Watching.{WatchState, CanPair, Right}
@@ -57,13 +59,13 @@ pub known_push : (cnf : Clauses) (log : List Step) (line : Step) → known_by cn
 known_push cnf log line = ap (λ cs. cnf.clauses ++ cs) (map-append (λ (s : Step). s.clause) log (line ∷ [])) ∙ sym (append_assoc cnf.clauses (clauses_of log) (line.clause ∷ []))
 
 -- the log stays one of the search
-pub logged_push : (cnf : Clauses) (log : List Step) (t : TrailState) (table lits : List ℕ) (line : Step) → IsLogged cnf log → t.vars ≡ cnf.vars → IsAsserting (known_by cnf log) t table line lits → IsLogged cnf (log ++ line ∷ [])
-logged_push cnf log t table lits line g vars a = record {
+pub logged_push : (cnf : Clauses) (log : List Step) (t : TrailState) (table lits : List ℕ) (line : Step) → IsLogged cnf log → t.vars ≡ cnf.vars → IsAsserting (known_by cnf log) t table line lits → HintsFit line → IsLogged cnf (log ++ line ∷ [])
+logged_push cnf log t table lits line g vars a fit = record {
   valid = valid_push cnf.clauses log line g.valid a.follows;
   fresh = each_line-append is_new cnf.clauses log (line ∷ []) ∙ and_from (fresh cnf.clauses log) _ g.fresh (and_from (is_new (known_by cnf log) line) _ a.is_new refl);
   none_empty = All-push (λ (s : Step). s.clause ≢ []) log line g.none_empty
       (λ e. false≢true (ap (λ cl. has cl (get_or lits 0 0)) (sym e) ∙ a.same (get_or lits 0 0) ∙ place_has lits 0 0 a.some));
-  clauses = All-push (λ (s : Step). IsClause cnf.vars s.clause) log line g.clauses (subst (λ v. IsClause v line.clause) vars a.clause);
+  lines = All-push (IsLine cnf.vars) log line g.lines (line_follows cnf.vars (known_by cnf log) line a.follows (subst (λ v. IsClause v line.clause) vars a.clause) fit);
 }
 
 -- one entry more at the present level, under which the old ones stay quiet

@@ -7,7 +7,8 @@ use Rattle.cnf_core.specs.Literal.{IsOver}
 use Rattle.derivation.specs.Logs.{clauses_of}
 use Rattle.derivation.specs.Step.{Step}
 use Rattle.sat_watch.specs.declared.trail.Entry.{Entry}
-use Rattle.sat_watch.specs.Literals.{is_true, has, IsOpen}
+use Rattle.cnf_core.specs.Trues.{is_true}
+use Rattle.sat_watch.specs.Literals.{has, IsOpen}
 use Rattle.sat_watch.specs.Trail.{TrailState, literals, up_to}
 use Rattle.sat_watch.specs.Watching.{WatchState, Right, CanPair}
 use Rattle.sat_watch.proofs.LiteralLemmas.{equal, is_true-append}
@@ -23,7 +24,7 @@ use Rattle.sat_solver.proofs.Running.{number_at, backed_known, backed_push, back
 
 -- a log with no line
 pub logged_nil : (cnf : Clauses) (log : List Step) → log ≡ [] → IsLogged cnf log
-logged_nil cnf log e = subst (IsLogged cnf) (sym e) (record { valid = refl; fresh = refl; none_empty = λ k d l. absurd (omega arith); clauses = λ k d l. absurd (omega arith) })
+logged_nil cnf log e = subst (IsLogged cnf) (sym e) (record { valid = refl; fresh = refl; none_empty = λ k d l. absurd (omega arith); lines = λ k d l. absurd (omega arith) })
 
 pub quiet_root_level : (clauses : List (List ℕ)) (t : TrailState) → t.level ≡ 0 → AreQuietBelow clauses t
 quiet_root_level clauses t root level below = absurd (omega arith)

@@ -5,7 +5,7 @@ use Rattle.std.proofs.lemmas.List.{append-nil, map-append, get_or-map, length-ma
 use Rattle.std.proofs.lemmas.List.Elements.{All-cons, All-nil, All-weaker}
 use Rattle.sat_order.specs.Order.{Order}
 use Rattle.sat_watch.specs.declared.trail.Entry.{Entry}
-use Rattle.sat_watch.specs.Literals.{is_true}
+use Rattle.cnf_core.specs.Trues.{is_true}
 use Rattle.sat_watch.specs.Propagation.{IsQuiet, Grows}
 use Rattle.sat_watch.specs.Trail.{TrailState, literals, levels, up_to, IsSound}
 use Rattle.sat_watch.specs.Watching.{WatchState, Right}

@@ -11,7 +11,8 @@ use Rattle.derivation.specs.Propagation.{ends, effect_by, effect_of, not_false, 
 use Rattle.derivation.specs.declared.effect.Effect.{Effect}
 use Rattle.derivation.specs.declared.effect.Effect.TheVariants.{Conflicts, Forces, Fails}
 use Rattle.derivation.specs.Logs.{contains_clause, is_new}
-use Rattle.sat_watch.specs.Literals.{is_true, has, IsOpen, AreApart}
+use Rattle.cnf_core.specs.Trues.{is_true}
+use Rattle.sat_watch.specs.Literals.{has, IsOpen, AreApart}
 use Rattle.sat_watch.specs.Propagation.{IsQuiet}
 use Rattle.sat_watch.specs.Trail.{TrailState, literals, up_to}
 use Rattle.sat_watch.proofs.LiteralLemmas.{tested, equal, unequal, is_true-append}

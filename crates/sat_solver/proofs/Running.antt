@@ -7,7 +7,8 @@ use Rattle.std.proofs.lemmas.List.{get_or_append_left, get_or_push, take-append-
 use Rattle.std.proofs.lemmas.List.Elements.{All-head, All-tail, All-cons}
 use Rattle.cnf_core.specs.Literal.{negated}
 use Rattle.sat_watch.specs.declared.trail.Entry.{Entry}
-use Rattle.sat_watch.specs.Literals.{is_true, has, IsOpen}
+use Rattle.cnf_core.specs.Trues.{is_true}
+use Rattle.sat_watch.specs.Literals.{has, IsOpen}
 use Rattle.sat_watch.specs.Propagation.{Forces, AreForced}
 use Rattle.sat_watch.specs.Trail.{literals, up_to}
 use Rattle.sat_watch.proofs.LiteralLemmas.{tested, equal, unequal, is_true-append, same_half, halves}

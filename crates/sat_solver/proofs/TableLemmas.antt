@@ -6,6 +6,7 @@ use Rattle.std.specs.List.{list_any}
 use Rattle.std.proofs.lemmas.List.Elements.{All-map, All-head, All-tail}
 use Rattle.cnf_core.specs.Literal.{IsOver}
 use Rattle.derivation.specs.Propagation.{once}
+use Rattle.derivation.proofs.Rising.{vars_of}
 use Rattle.sat_order.specs.Lists.{holds, before, EachOnce}
 use Rattle.sat_order.specs.Order.{Order, passed, IsOrder, is_free}
 use Rattle.sat_watch.specs.declared.trail.Entry.{Entry}
@@ -70,20 +71,17 @@ freed_more old new values var o z all moved v h =
 
 -- VARIABLES OF LITERALS
 
-abbrev pub variables : List ℕ → List ℕ
-variables lits = map (λ lit. lit / 2) lits
-
-pub variables_from_one : (vars : ℕ) (lits : List ℕ) → All (IsOver vars) lits → All (λ var. 0 < var) (variables lits)
+pub variables_from_one : (vars : ℕ) (lits : List ℕ) → All (IsOver vars) lits → All (λ var. 0 < var) (vars_of lits)
 variables_from_one vars lits over = All-map (λ var. 0 < var) (λ lit. lit / 2) lits (λ k d lt. (over k d lt).0)
 
-pub variables_within : (vars most : ℕ) (lits : List ℕ) → All (IsOver vars) lits → vars ≡ most → All (λ var. var ≤ most) (variables lits)
+pub variables_within : (vars most : ℕ) (lits : List ℕ) → All (IsOver vars) lits → vars ≡ most → All (λ var. var ≤ most) (vars_of lits)
 variables_within vars most lits over same = All-map (λ var. var ≤ most) (λ lit. lit / 2) lits (λ k d lt. omega (arith, (over k d lt).1, same))
 
-absent : (x : ℕ) (lits : List ℕ) → list_any (λ other. eqb (other / 2) x) lits ≡ false → holds (variables lits) x ≡ false
+absent : (x : ℕ) (lits : List ℕ) → list_any (λ other. eqb (other / 2) x) lits ≡ false → holds (vars_of lits) x ≡ false
 absent x [] h = refl
 absent x (y ∷ ys) h = grind (arith, h, absent x ys)
 
-pub variables_once : (lits : List ℕ) → once lits ≡ true → EachOnce (variables lits)
+pub variables_once : (lits : List ℕ) → once lits ≡ true → EachOnce (vars_of lits)
 variables_once [] h = tt
 variables_once (x ∷ xs) h =
     let both : ((list_any (λ other. eqb (other / 2) (x / 2)) xs) ≡ false) × (once xs ≡ true) = split (list_any (λ other. eqb (other / 2) (x / 2)) xs) (once xs) h in
@@ -94,7 +92,7 @@ variables_once (x ∷ xs) h =
     split false b h = (refl, h)
 
 -- a variable of literals whose variables have values has one
-values_there : (set : List Bool) (lits : List ℕ) (v : ℕ) → All (λ lit. is_free set (lit / 2) ≡ false) lits → holds (variables lits) v ≡ true → is_free set v ≡ false
+values_there : (set : List Bool) (lits : List ℕ) (v : ℕ) → All (λ lit. is_free set (lit / 2) ≡ false) lits → holds (vars_of lits) v ≡ true → is_free set v ≡ false
 values_there set [] v all h = absurd (let both : false ≡ true = h in cc)
 values_there set (x ∷ xs) v all h = elim (tested (eqb (x / 2) v)) [
   | inl same ↦ subst (λ w. is_free set w ≡ false) (equal (x / 2) v same) (All-head (λ lit. is_free set (lit / 2) ≡ false) x xs all)
@@ -102,7 +100,7 @@ values_there set (x ∷ xs) v all h = elim (tested (eqb (x / 2) v)) [
 ]
 
 -- variables with values come to the front
-pub queued_bumped : (vars : ℕ) (old new : Order) (values : List Bool) (lits moved : List ℕ) → IsQueued vars old values → All (λ lit. is_free values (lit / 2) ≡ false) lits → moved ≡ variables lits
+pub queued_bumped : (vars : ℕ) (old new : Order) (values : List Bool) (lits moved : List ℕ) → IsQueued vars old values → All (λ lit. is_free values (lit / 2) ≡ false) lits → moved ≡ vars_of lits
     → ((v : ℕ) → holds (passed new) v ≡ true → (holds moved v || holds (passed old) v) ≡ true) → length new.vars ≡ length old.vars → IsOrder new.vars → IsQueued vars new values
 queued_bumped vars old new values lits moved q f is more count each = record {
   order = each;

@@ -9,17 +9,19 @@ use Rattle.std.proofs.lemmas.List.Sums.{count_by-le-length, length-filter}
 use Rattle.cnf_core.specs.Clauses.{Clauses}
 use Rattle.cnf_core.specs.Literal.{negated, is_negative, IsOver}
 use Rattle.cnf_core.specs.Truth.{lit_holds, clause_holds, clauses_hold, assigned, Satisfies}
-use Rattle.derivation.specs.LogText.{IsClause}
+use Rattle.derivation.specs.LogText.{IsClause, IsLine}
 use Rattle.derivation.specs.Logs.{clauses_of, is_new, fresh, valid, ends_empty}
-use Rattle.derivation.specs.Step.{Step}
+use Rattle.derivation.specs.Step.{Step, HintsFit}
 use Rattle.derivation.specs.Propagation.{Follows}
+use Rattle.derivation.proofs.LogHints.{line_follows}
 use Rattle.derivation.proofs.LogLemmas.{each_line-append, valid_push}
 use Rattle.derivation.proofs.Sound.{refutes_sound}
 use Rattle.sat_order.specs.Lists.{holds}
 use Rattle.sat_order.specs.Order.{Order, is_free}
 use Rattle.sat_solver.specs.Queued.{IsQueued}
 use Rattle.sat_watch.specs.declared.trail.Entry.{Entry}
-use Rattle.sat_watch.specs.Literals.{is_true, has, AreApart}
+use Rattle.cnf_core.specs.Trues.{is_true}
+use Rattle.sat_watch.specs.Literals.{has, AreApart}
 use Rattle.sat_watch.specs.Propagation.{IsFalse, IsQuiet}
 use Rattle.sat_watch.specs.Trail.{TrailState, literals, up_to, IsSound}
 use Rattle.sat_watch.proofs.LiteralLemmas.{tested, equal, unequal, halves, negated-negated}
@@ -71,7 +73,7 @@ few_lines : (log : List Step) → length (learnt_lines log) ≤ length log
 few_lines log = omega (arith, count_by-le-length (λ (s : Step). not (eqb (length s.clause) 0)) log, length-filter (λ (s : Step). not (eqb (length s.clause) 0)) log)
 
 pub kept_logged : (cnf : Clauses) (log : List Step) (budget : ℕ) → IsLogged cnf log → IsWithin budget log → IsKept cnf log budget
-kept_logged cnf log budget g w = record { valid = g.valid; fresh = g.fresh; clauses = g.clauses; few = λ some. let a : length log ≤ budget = w some in omega (arith, few_lines log, a) }
+kept_logged cnf log budget g w = record { valid = g.valid; fresh = g.fresh; lines = g.lines; few = λ some. let a : length log ≤ budget = w some in omega (arith, few_lines log, a) }
 
 -- the budget is spent
 pub answer_spent : (cnf : Clauses) (log : List Step) (budget : ℕ) (clauses : List (List ℕ)) (t : TrailState) → IsLogged cnf log → IsSound t → AreHeld (known_by cnf log) clauses t.entries → AreQuietBelow clauses t → 0 < t.level → 0 < budget
@@ -83,7 +85,7 @@ answer_spent cnf log budget clauses t g s held quiet above some whole = record {
     fresh = g.fresh;
     whole = whole;
     none_empty = g.none_empty;
-    over = All-weaker (λ (step : Step). IsClause cnf.vars step.clause) (λ (step : Step). All (IsOver cnf.vars) step.clause) (λ step h. h.over) log g.clauses;
+    over = All-weaker (IsLine cnf.vars) (λ (step : Step). All (IsOver cnf.vars) step.clause) (λ step h. h.clause.over) log g.lines;
     stuck = λ hints f. never_ends (known_by cnf log) (literals (up_to 0 t.entries)) hints []
         (known_quiet (known_by cnf log) clauses t.entries (up_to 0 t.entries) apart (λ lit h. h) held (quiet 0 above)) (λ lit h. absurd (false≢true h)) f;
   };
@@ -101,8 +103,8 @@ last_line [] line = refl
 last_line (s ∷ ss) line = last_line ss line
 
 -- the empty line refutes
-pub answer_refuted : (cnf : Clauses) (log : List Step) (budget : ℕ) (line : Step) → IsLogged cnf log → IsWithin budget log → Follows (known_by cnf log) line → line.clause ≡ [] → IsAnswer cnf (log ++ line ∷ []) budget Refuted
-answer_refuted cnf log budget line g w f e =
+pub answer_refuted : (cnf : Clauses) (log : List Step) (budget : ℕ) (line : Step) → IsLogged cnf log → IsWithin budget log → Follows (known_by cnf log) line → line.clause ≡ [] → HintsFit line → IsAnswer cnf (log ++ line ∷ []) budget Refuted
+answer_refuted cnf log budget line g w f e fit =
     let none : eqb (length line.clause) 0 ≡ true = eq-eqb (length line.clause) 0 (ap length e) in
     let valid_all : valid cnf.clauses (log ++ line ∷ []) ≡ true = valid_push cnf.clauses log line g.valid f in
     let at : length (log ++ line ∷ []) - 1 ≡ length log = omega (arith, length_push log line) in
@@ -113,8 +115,8 @@ answer_refuted cnf log budget line g w f e =
       kept = record {
         valid = valid_all;
         fresh = each_line-append is_new cnf.clauses log (line ∷ []) ∙ and_from (fresh cnf.clauses log) _ g.fresh (and_from (is_new (known_by cnf log) line) _ (or_left (eqb (length line.clause) 0) _ none) refl);
-        clauses = All-push (λ (s : Step). IsClause cnf.vars s.clause) log line g.clauses
-            (subst (IsClause cnf.vars) (sym e) (record { rising = λ k l. absurd (omega arith); over = λ k d l. absurd (omega arith) }));
+        lines = All-push (IsLine cnf.vars) log line g.lines
+            (line_follows cnf.vars (known_by cnf log) line f (subst (IsClause cnf.vars) (sym e) (record { rising = λ k l. absurd (omega arith); over = λ k d l. absurd (omega arith) })) fit);
         few = λ some.
             let a : length log ≤ budget = w some in
             let same : learnt_lines (log ++ line ∷ []) ≡ learnt_lines log =
@@ -204,7 +206,8 @@ answer_satisfied cnf log budget clauses t values s vars over held roots quiet al
 
 -- a log of the search has no more lines than its measure allows
 pub lines_few : (cnf : Clauses) (log : List Step) → IsLogged cnf log → length log ≤ 3 ^ cnf.vars
-lines_few cnf log g = fresh_bound cnf.vars cnf.clauses log g.fresh g.none_empty g.clauses g.valid
+lines_few cnf log g =
+    fresh_bound cnf.vars cnf.clauses log g.fresh g.none_empty (All-weaker (IsLine cnf.vars) (λ (step : Step). IsClause cnf.vars step.clause) (λ step h. h.clause) log g.lines) g.valid
 
 pub rank_same : (vars vars' lines lines' level level' most : ℕ) → vars' ≡ vars → lines' ≡ lines → level' ≡ level → rank vars lines level < most → rank vars' lines' level' < most
 rank_same vars vars' lines lines' level level' most v n l h =

@@ -2,7 +2,7 @@
 use Rattle.std.specs.Prelude.{◌≡◌, ℕ, ◌+◌, ◌-◌, ◌*◌, ◌^◌, ◌<◌, ◌≤◌, ◌==◌, not, List, All, length, filter}
 use Rattle.cnf_core.specs.Clauses.{Clauses}
 use Rattle.cnf_core.specs.Truth.{assigned, Satisfies, IsUnsatisfiable}
-use Rattle.derivation.specs.LogText.{IsClause}
+use Rattle.derivation.specs.LogText.{IsLine}
 use Rattle.derivation.specs.Logs.{Valid, Refutes, Fresh, Spends}
 use Rattle.derivation.specs.Step.{Step}
 use Rattle.sat_solver.specs.Steps.{IsSearch}
@@ -20,12 +20,12 @@ IsRight cnf log budget Spent = Spends cnf log budget
 abbrev pub learnt_lines : List Step → List Step
 learnt_lines log = filter (λ step. not (length step.clause == 0)) log
 
--- What the log of each answer has: it is valid and fresh, the variables of its lines rise and are the formula's, and with
--- a budget it has at most that many lines that are not empty.
+-- What the log of each answer has: it is valid and fresh, a text can hold its lines, whose variables rise and are the
+-- formula's, and with a budget it has at most that many lines that are not empty.
 pub record IsKept (cnf : Clauses) (log : List Step) (budget : ℕ) : Type 0 where
   pub valid : Valid cnf.clauses log
   pub fresh : Fresh cnf.clauses log
-  pub clauses : All (λ step. IsClause cnf.vars step.clause) log
+  pub lines : All (IsLine cnf.vars) log
   pub few : 0 < budget → length (learnt_lines log) ≤ budget
 
 pub record IsAnswer (cnf : Clauses) (log : List Step) (budget : ℕ) (answer : SatAnswer) : Type 0 where

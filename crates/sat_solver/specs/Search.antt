@@ -1,10 +1,11 @@
 -- What a search keeps: its clauses belong to the formula and the log, and before each decision no clause was unit or false.
 use Rattle.std.specs.Prelude.{◌≡◌, ◌≢◌, ℕ, ◌+◌, ◌-◌, ◌*◌, ◌<◌, ◌⊎◌, ◌||◌, Bool, true, false, List, [], ◌++◌, All, length, slice_index_or}
 use Rattle.cnf_core.specs.Clauses.{Clauses}
-use Rattle.derivation.specs.LogText.{IsClause}
+use Rattle.derivation.specs.LogText.{IsLine}
 use Rattle.derivation.specs.Logs.{clauses_of, Valid, Fresh}
 use Rattle.derivation.specs.Step.{Step}
-use Rattle.sat_watch.specs.Literals.{is_true, has}
+use Rattle.cnf_core.specs.Trues.{is_true}
+use Rattle.sat_watch.specs.Literals.{has}
 use Rattle.sat_watch.specs.Propagation.{IsQuiet}
 use Rattle.sat_watch.specs.Trail.{TrailState, literals, up_to}
 use Rattle.sat_watch.specs.Watching.{WatchState, Right}
@@ -16,12 +17,12 @@ use Rattle.sat_analysis.specs.declared.notes.Notes.{Notes}
 abbrev pub known_by : Clauses → List Step → List (List ℕ)
 known_by cnf log = cnf.clauses ++ clauses_of log
 
--- A log of the search: it follows, it is fresh, no line is empty, and the lines are over the variables in their order.
+-- A log of the search: it follows, it is fresh, no line is empty, and a text over the variables can hold the lines.
 pub record IsLogged (cnf : Clauses) (log : List Step) : Type 0 where
   pub valid : Valid cnf.clauses log
   pub fresh : Fresh cnf.clauses log
   pub none_empty : All (λ step. step.clause ≢ []) log
-  pub clauses : All (λ step. IsClause cnf.vars step.clause) log
+  pub lines : All (IsLine cnf.vars) log
 
 -- A clause with the same literals is watched.
 pub record IsWatchedAs (clauses : List (List ℕ)) (clause : List ℕ) : Type 0 where

@@ -5,7 +5,8 @@ use Rattle.derivation.specs.LogText.{IsClause}
 use Rattle.derivation.specs.Logs.{is_new}
 use Rattle.derivation.specs.Propagation.{Follows}
 use Rattle.derivation.specs.Step.{Step}
-use Rattle.sat_watch.specs.Literals.{is_true, has, EachOnce, IsOpen}
+use Rattle.cnf_core.specs.Trues.{is_true}
+use Rattle.sat_watch.specs.Literals.{has, EachOnce, IsOpen}
 use Rattle.sat_watch.specs.Propagation.{IsQuiet}
 use Rattle.sat_watch.specs.Trail.{TrailState, literals, up_to}
 use Rattle.sat_analysis.specs.Learnt.{level_of}

@@ -1,7 +1,7 @@
 ghost use Rattle.std.specs.Prelude.{◌≡◌, ℕ, ◌+◌, ◌-◌, ◌*◌, ◌^◌, ◌<◌, ◌≤◌, ◌==◌, true, false, if◌then◌else◌, List, [], ◌∷◌, ◌++◌, All, length, take, slice_index_or, IfOk, OnOk, IfSome, IfNone};
 ghost use Rattle.cnf_core.specs.Literal.{IsOver};
 ghost use Rattle.sat_solver.specs.Search.{known_by};
-ghost use Rattle.sat_watch.specs.Literals.{is_true};
+ghost use Rattle.cnf_core.specs.Trues.{is_true};
 ghost use Rattle.sat_watch.specs.Propagation.{IsFalse, IsQuiet, Grows};
 ghost use Rattle.sat_watch.specs.Trail.{literals, levels, up_to, IsSound};
 

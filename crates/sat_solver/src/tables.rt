@@ -2,7 +2,8 @@ ghost use Rattle.std.specs.Prelude.{◌≡◌, ℕ, ◌+◌, ◌-◌, ◌*◌, �
 ghost use Rattle.cnf_core.specs.Literal.{IsOver};
 ghost use Rattle.sat_order.specs.Lists.{holds};
 ghost use Rattle.sat_order.specs.Order.{passed, is_free, IsOrder};
-ghost use Rattle.sat_watch.specs.Literals.{is_true, AreApart};
+ghost use Rattle.cnf_core.specs.Trues.{is_true};
+ghost use Rattle.sat_watch.specs.Literals.{AreApart};
 ghost use Rattle.sat_watch.specs.Trail.{literals, levels, up_to, Rises, IsSound};
 ghost use Rattle.derivation.specs.Propagation.{once};
 ghost use Rattle.sat_analysis.specs.Settled.{HasRoom};

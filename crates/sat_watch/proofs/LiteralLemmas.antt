@@ -5,7 +5,8 @@ use Rattle.std.specs.List.{list_any, AllByRecursion, IsDistinct}
 use Rattle.std.proofs.lemmas.List.Elements.{recursion_from_All}
 use Rattle.std.proofs.lemmas.Map.Steps.{length-le_from_distinct_below}
 use Rattle.cnf_core.specs.Literal.{negated, IsOver}
-use Rattle.sat_watch.specs.Literals.{is_true, IsOpen, AreApart, AreMarks}
+use Rattle.cnf_core.specs.Trues.{is_true, AreMarks}
+use Rattle.sat_watch.specs.Literals.{IsOpen, AreApart}
 
 -- a test is one or the other
 pub tested : (b : Bool) → (b ≡ true) ⊎ (b ≡ false)

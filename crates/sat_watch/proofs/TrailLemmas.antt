@@ -5,7 +5,8 @@ use Rattle.std.proofs.lemmas.List.{length-map, map-append, length-set, length_pu
 use Rattle.std.proofs.lemmas.List.Elements.{All-push}
 use Rattle.cnf_core.specs.Literal.{IsOver}
 use Rattle.sat_watch.specs.declared.trail.Entry.{Entry}
-use Rattle.sat_watch.specs.Literals.{IsOpen, AreApart, AreMarks}
+use Rattle.cnf_core.specs.Trues.{AreMarks}
+use Rattle.sat_watch.specs.Literals.{IsOpen, AreApart}
 use Rattle.sat_watch.specs.Trail.{literals, levels, up_to, Rises, IsSound, IsMarked}
 use Rattle.sat_watch.proofs.LiteralLemmas.{tested, few_apart, apart-push, marks-push, apart-front, apart-last, marks-pop}
 

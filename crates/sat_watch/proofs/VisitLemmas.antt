@@ -5,7 +5,8 @@ use Rattle.std.specs.Prelude.{IfNone}
 use Rattle.cnf_core.specs.Clauses.{Clauses}
 use Rattle.cnf_core.specs.Literal.{negated, IsOver}
 use Rattle.sat_watch.specs.declared.trail.Entry.{Entry}
-use Rattle.sat_watch.specs.Literals.{is_true, has, AreApart}
+use Rattle.cnf_core.specs.Trues.{is_true}
+use Rattle.sat_watch.specs.Literals.{has, AreApart}
 use Rattle.sat_watch.specs.Trail.{TrailState, literals, levels, Rises, IsSound}
 use Rattle.sat_watch.specs.Threads.{Chain, IsThread, CanWatch, IsWatches}
 use Rattle.sat_watch.specs.Watching.{WatchState, twin, clause_of, IsWatch, IsSet, IsTrueBy, IsGuarded, Right}

@@ -1,11 +1,8 @@
--- Which literals are true, as the list of the literals that were made true.
-use Rattle.std.specs.Prelude.{◌≡◌, ℕ, ◌+◌, ◌*◌, ◌==◌, Bool, true, false, Option, Some, None, List, [], ◌∷◌, ⊤, slice_index_or, if◌then◌else◌}
+-- Literals that are true, and lists of literals.
+use Rattle.std.specs.Prelude.{◌≡◌, ℕ, ◌+◌, ◌*◌, ◌==◌, Bool, true, false, Option, Some, None, List, [], ◌∷◌, ⊤, if◌then◌else◌}
 use Rattle.std.specs.List.{list_any}
 use Rattle.cnf_core.specs.Literal.{negated}
-
--- whether a literal is true; it is false where its negation is
-abbrev pub is_true : List ℕ → ℕ → Bool
-is_true trues lit = list_any (λ made. made == lit) trues
+use Rattle.cnf_core.specs.Trues.{is_true}
 
 -- whether a list has an element
 abbrev pub has : List ℕ → ℕ → Bool
@@ -28,7 +25,3 @@ IsOpen trues lit = (is_true trues lit ≡ false) × (is_true trues (negated lit)
 abbrev pub AreApart : List ℕ → Type 0
 AreApart [] = ⊤
 AreApart (lit ∷ lits) = IsOpen lits lit × AreApart lits
-
--- Exactly the literals that are true are marked at their number; past its end the table marks none.
-abbrev pub AreMarks : List Bool → List ℕ → Type 0
-AreMarks marks trues = (lit : ℕ) → slice_index_or marks lit false ≡ is_true trues lit

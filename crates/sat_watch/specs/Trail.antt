@@ -2,7 +2,8 @@
 use Rattle.std.specs.Prelude.{◌≡◌, ℕ, ◌+◌, ◌*◌, ◌<◌, ◌≤◌, ◌^◌, Bool, List, [], ◌∷◌, ◌++◌, All, length, map, filter, nat_le}
 use Rattle.cnf_core.specs.Literal.{IsOver}
 use Rattle.sat_watch.specs.declared.trail.Entry.{Entry}
-use Rattle.sat_watch.specs.Literals.{AreApart, AreMarks}
+use Rattle.cnf_core.specs.Trues.{AreMarks}
+use Rattle.sat_watch.specs.Literals.{AreApart}
 
 -- a trail as contracts see it: over how many variables, its entries in order, its level, and how many entries propagation has gone through
 pub record TrailState : Type 0 where

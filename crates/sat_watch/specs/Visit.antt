@@ -2,7 +2,8 @@
 use Rattle.std.specs.Prelude.{◌≡◌, ◌≢◌, ℕ, ◌<◌, ◌==◌, zero, suc, List, [], ◌∷◌, ◌++◌, true, false, length, slice_index, slice_index_or, if◌then◌else◌}
 use Rattle.cnf_core.specs.Clauses.{Clauses}
 use Rattle.cnf_core.specs.Literal.{negated}
-use Rattle.sat_watch.specs.Literals.{is_true, has}
+use Rattle.cnf_core.specs.Trues.{is_true}
+use Rattle.sat_watch.specs.Literals.{has}
 use Rattle.sat_watch.specs.Trail.{TrailState, literals, IsSound}
 use Rattle.sat_watch.specs.Threads.{Chain, Walk, IsWatches}
 use Rattle.sat_watch.specs.Watching.{WatchState, twin, clause_of, Right}

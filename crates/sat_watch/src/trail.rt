@@ -1,7 +1,8 @@
 ghost use Rattle.std.specs.Prelude.{◌≡◌, ℕ, ◌+◌, ◌*◌, ◌<◌, ◌≤◌, ◌^◌, Bool, Some, None, [], ◌∷◌, ◌++◌, List, length, take, min, All, IfOk};
 ghost use Rattle.cnf_core.specs.Literal.{IsOver};
 ghost use Rattle.sat_watch.specs.Trail.{literals, levels, up_to, IsFront, Rises};
-ghost use Rattle.sat_watch.specs.Literals.{is_true, value_of, IsOpen, AreApart, AreMarks};
+ghost use Rattle.cnf_core.specs.Trues.{is_true, AreMarks};
+ghost use Rattle.sat_watch.specs.Literals.{value_of, IsOpen, AreApart};
 
 use cnf_core::Lit;
 use no_memory::NoMemory;

@@ -1,6 +1,7 @@
 ghost use Rattle.std.specs.Prelude.{◌≡◌, ◌≢◌, ℕ, ◌+◌, ◌*◌, ◌/◌, ◌-◌, ◌<◌, ◌≤◌, Bool, true, false, Some, None, [], ◌∷◌, ◌++◌, List, length, All, IfSome, IfNone, slice_index, slice_index_or};
 ghost use Rattle.cnf_core.specs.Literal.{negated, IsOver};
-ghost use Rattle.sat_watch.specs.Literals.{is_true, has};
+ghost use Rattle.cnf_core.specs.Trues.{is_true};
+ghost use Rattle.sat_watch.specs.Literals.{has};
 ghost use Rattle.sat_watch.specs.Propagation.{IsFalse, IsQuiet, Grows};
 ghost use Rattle.sat_watch.specs.Threads.{CanWatch};
 ghost use Rattle.sat_watch.specs.Trail.{TrailState, literals, IsSound};

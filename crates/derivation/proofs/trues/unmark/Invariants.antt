@@ -1,5 +1,5 @@
 use Rattle.std.proofs.Common.{◌≡◌, ℕ, true, false, drop, slice_index_or}
-use Rattle.derivation.specs.Propagation.{is_true}
+use Rattle.cnf_core.specs.Trues.{is_true}
 use Rattle.derivation.proofs.trues.unmark.Given as goal
 
 -- what is still marked comes later

@@ -8,7 +8,7 @@ use Rattle.derivation.proofs.writer.push_line.Goals as goal
 pub returns : goal.returns
 returns c =
     let clause : c.as_slice.result.now ≡ c.args.line.now.clause = c.as_slice.ensures ∙ ap (λ (s : Step). s.clause) c.line.view_is in
-    let hints : c.as_slice-2.result.now ≡ c.args.line.now.hints = c.as_slice-2.ensures ∙ ap (λ (s : Step). s.hints) c.line.view_is in
+    let hints : c.hints.result.now ≡ c.args.line.now.hints = c.hints.ensures.value in
     c.in_ok-extend_from_slice-2.ensures.items
     ∙ ap (λ t. t ++ 48 ∷ 10 ∷ [])
     (c.in_ok-push_numbers.ensures

@@ -1,5 +1,5 @@
 use Rattle.std.proofs.Common.{◌≡◌, ℕ, true, false, drop, length, slice_index_or}
-use Rattle.sat_watch.specs.Literals.{is_true}
+use Rattle.cnf_core.specs.Trues.{is_true}
 use Rattle.sat_analysis.proofs.marks.unmark.Given as goal
 
 -- what is still marked comes later

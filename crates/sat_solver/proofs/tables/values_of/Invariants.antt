@@ -1,5 +1,5 @@
 use Rattle.std.proofs.Common.{◌≡◌, ◌≤◌, ◌<◌, ◌-◌, ◌*◌, ℕ, false, length, slice_index_or}
-use Rattle.sat_watch.specs.Literals.{is_true}
+use Rattle.cnf_core.specs.Trues.{is_true}
 use Rattle.sat_watch.specs.Trail.{literals}
 use Rattle.sat_solver.proofs.tables.values_of.Given as goal
 

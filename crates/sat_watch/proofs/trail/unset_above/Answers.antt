@@ -1,5 +1,5 @@
 use Rattle.std.proofs.Common.{◌≡◌, ◌<◌, ◌≤◌, ◌-◌, ◌∙◌, length, length-set, sym, ap, arith, subst, false, take, slice_set}
-use Rattle.sat_watch.specs.Literals.{AreMarks}
+use Rattle.cnf_core.specs.Trues.{AreMarks}
 use Rattle.sat_watch.specs.Trail.{literals}
 use Rattle.sat_watch.specs.declared.trail.Entry.{Entry}
 use Rattle.sat_watch.proofs.TrailLemmas.{above_more, kept_all, unmarked, entry_place}

@@ -1,5 +1,5 @@
 use Rattle.std.proofs.Common.{◌≡◌, ◌≤◌, [], length, take, drop}
-use Rattle.sat_watch.specs.Literals.{AreMarks}
+use Rattle.cnf_core.specs.Trues.{AreMarks}
 use Rattle.sat_watch.specs.Trail.{literals, up_to}
 use Rattle.sat_watch.proofs.trail.unset_above.Given as goal
 

@@ -63,6 +63,6 @@ returns-clause-search c =
         marks = b.marks;
         minimiser = c.note_entries.ensures.room s.cnf.vars b.minimiser;
       };
-      logged = subst (IsLogged s.cnf) (sym log) (logged_push s.cnf s.log s.trail s.notes.levels.items lits c.args.line c.requires.search.logged b.vars c.requires.asserting);
+      logged = subst (IsLogged s.cnf) (sym log) (logged_push s.cnf s.log s.trail s.notes.levels.items lits c.args.line c.requires.search.logged b.vars c.requires.asserting c.push-2.ensures.fit);
       over = c.requires.search.over;
     }

@@ -1,7 +1,7 @@
 use Rattle.std.proofs.Common.{◌≡◌, ◌≢◌, ℕ, ◌+◌, true, List, [], ◌∷◌, ◌++◌, length, take, get_or, subst, sym, ap, ◌∙◌, arith}
 use Rattle.std.proofs.lemmas.Bool.{eqb-false}
 use Rattle.std.proofs.lemmas.List.{take_more, get_or_read}
-use Rattle.sat_watch.specs.Literals.{is_true}
+use Rattle.cnf_core.specs.Trues.{is_true}
 use Rattle.sat_watch.specs.Trail.{literals, up_to}
 use Rattle.sat_watch.proofs.TrailLemmas.{up_to_all}
 use Rattle.sat_solver.specs.Search.{known_by, IsRunning}

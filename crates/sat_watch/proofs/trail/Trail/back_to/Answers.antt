@@ -1,7 +1,7 @@
 use Rattle.std.proofs.Common.{◌≤◌, ◌≡◌, ◌∙◌, subst, sym, ap, arith, take, length, min, length-take-le}
 use Rattle.sat_watch.specs.Watching.{Right}
 use Rattle.sat_watch.proofs.RightLemmas.{right_back, front_up_to}
-use Rattle.sat_watch.specs.Literals.{AreMarks}
+use Rattle.cnf_core.specs.Trues.{AreMarks}
 use Rattle.sat_watch.specs.Trail.{literals, up_to, IsFront}
 use Rattle.sat_watch.proofs.TrailLemmas.{marked_back}
 use Rattle.sat_watch.proofs.trail.Trail.back_to.Goals as goal

@@ -1,7 +1,8 @@
 use Rattle.std.proofs.Common.{◌≡◌, ◌∙◌, ℕ, List, true, length, set, refl, ap, sym, subst, arith}
 use Rattle.std.proofs.lemmas.List.{get_or_read}
 use Rattle.cnf_core.specs.Literal.{negated, IsOver}
-use Rattle.sat_watch.specs.Literals.{is_true, has}
+use Rattle.cnf_core.specs.Trues.{is_true}
+use Rattle.sat_watch.specs.Literals.{has}
 use Rattle.sat_watch.specs.Trail.{TrailState, literals}
 use Rattle.sat_watch.specs.Watching.{twin, clause_of, IsSet, Right}
 use Rattle.sat_watch.specs.Visit.{state, read, Finds}

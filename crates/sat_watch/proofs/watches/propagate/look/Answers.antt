@@ -1,6 +1,7 @@
 use Rattle.std.proofs.Common.{◌≡◌, ◌≢◌, ◌<◌, ◌+◌, ◌-◌, ◌/◌, ◌∙◌, ℕ, true, length, get_or, ap, sym, subst, arith, []}
 use Rattle.cnf_core.specs.Literal.{negated, IsOver}
-use Rattle.sat_watch.specs.Literals.{is_true, has}
+use Rattle.cnf_core.specs.Trues.{is_true}
+use Rattle.sat_watch.specs.Literals.{has}
 use Rattle.sat_watch.specs.Trail.{literals}
 use Rattle.sat_watch.specs.Watching.{twin, clause_of}
 use Rattle.sat_watch.specs.Propagation.{Forces}

@@ -1,6 +1,7 @@
 use Rattle.std.proofs.Common.{◌≡◌, ◌≢◌, ℕ, true, take}
 use Rattle.cnf_core.specs.Literal.{negated}
-use Rattle.sat_watch.specs.Literals.{is_true, has}
+use Rattle.cnf_core.specs.Trues.{is_true}
+use Rattle.sat_watch.specs.Literals.{has}
 use Rattle.sat_watch.specs.Trail.{literals}
 use Rattle.sat_watch.proofs.watches.propagate.replacement.Given as goal
 
