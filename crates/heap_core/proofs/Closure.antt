@@ -99,7 +99,8 @@ rounds_kept zero edge bound set o is = is
 rounds_kept (suc n) edge bound set o is = kept edge bound (rounds n edge bound set) o (rounds_kept n edge bound set o is)
 
 -- what is so of the set's numbers, and of what an edge leads to from a number of which it is so, is so of all that rounds hold
-pub rounds_each : (P : ℕ → Type 0) (n : ℕ) (edge : Graph) (bound : ℕ) (set : ℕ → Bool) → ((o : ℕ) → set o ≡ true → P o) → ((p o : ℕ) → p < bound → P p → edge p o ≡ true → P o) → (o : ℕ) → rounds n edge bound set o ≡ true → P o
+pub rounds_each : (P : ℕ → Type 0) (n : ℕ) (edge : Graph) (bound : ℕ) (set : ℕ → Bool)
+    → ((o : ℕ) → set o ≡ true → P o) → ((p o : ℕ) → p < bound → P p → edge p o ≡ true → P o) → (o : ℕ) → rounds n edge bound set o ≡ true → P o
 rounds_each P zero edge bound set begins goes o is = begins o is
 rounds_each P (suc n) edge bound set begins goes o is =
     elim (from edge bound (rounds n edge bound set) o is) [
@@ -183,7 +184,8 @@ rounds_agree (suc n) edge other bound a b edges sets o =
     widened_agree edge other bound (rounds n edge bound a) (rounds n other bound b) o (λ p. edges p o) (λ p within. before p) (before o)
 
 -- graphs and sets that agree below the bound
-pub rounds_agree_below : (n : ℕ) (edge other : Graph) (bound : ℕ) (a b : ℕ → Bool) → ((p o : ℕ) → p < bound → o < bound → edge p o ≡ other p o) → ((o : ℕ) → o < bound → a o ≡ b o) → (o : ℕ) → o < bound → rounds n edge bound a o ≡ rounds n other bound b o
+pub rounds_agree_below : (n : ℕ) (edge other : Graph) (bound : ℕ) (a b : ℕ → Bool)
+    → ((p o : ℕ) → p < bound → o < bound → edge p o ≡ other p o) → ((o : ℕ) → o < bound → a o ≡ b o) → (o : ℕ) → o < bound → rounds n edge bound a o ≡ rounds n other bound b o
 rounds_agree_below zero edge other bound a b edges sets o inside = sets o inside
 rounds_agree_below (suc n) edge other bound a b edges sets o inside =
     let before = rounds_agree_below n edge other bound a b edges sets in
@@ -210,7 +212,8 @@ any_of_union p q (x ∷ xs) = rw (any_of_union p q xs) (regrouped (p x) (q x) (l
 
 widened_union : (edge : Graph) (bound : ℕ) (a b : ℕ → Bool) (o : ℕ) → widened edge bound (λ q. a q || b q) o ≡ (widened edge bound a o || widened edge bound b o)
 widened_union edge bound a b o =
-    rw (any_alike (λ p. (a p || b p) && edge p o) (λ p. (a p && edge p o) || (b p && edge p o)) 0 bound (λ p within. shared (a p) (b p) (edge p o)), any_of_union (λ p. a p && edge p o) (λ p. b p && edge p o) (range_with_len 0 bound))
+    let split = any_alike (λ p. (a p || b p) && edge p o) (λ p. (a p && edge p o) || (b p && edge p o)) 0 bound (λ p within. shared (a p) (b p) (edge p o)) in
+    rw (split, any_of_union (λ p. a p && edge p o) (λ p. b p && edge p o) (range_with_len 0 bound))
     (regrouped (a o) (b o) (list_any (λ p. a p && edge p o) (range_with_len 0 bound)) (list_any (λ p. b p && edge p o) (range_with_len 0 bound)))
 
 pub rounds_of_union : RoundsOfUnion
@@ -230,7 +233,8 @@ rounds_of_one : (n : ℕ) (edge : Graph) (bound q o : ℕ) (b : Bool) → rounds
 rounds_of_one n edge bound q o true = refl
 rounds_of_one n edge bound q o false = rounds_of_none n edge bound o
 
-rounds_of_listed : (n : ℕ) (edge : Graph) (bound : ℕ) (set : ℕ → Bool) (qs : List ℕ) (o : ℕ) → rounds n edge bound (λ r. list_any (λ q. set q && eqb r q) qs) o ≡ list_any (λ q. set q && rounds n edge bound (λ r. eqb r q) o) qs
+rounds_of_listed : (n : ℕ) (edge : Graph) (bound : ℕ) (set : ℕ → Bool) (qs : List ℕ) (o : ℕ)
+    → rounds n edge bound (λ r. list_any (λ q. set q && eqb r q) qs) o ≡ list_any (λ q. set q && rounds n edge bound (λ r. eqb r q) o) qs
 rounds_of_listed n edge bound set [] o = rounds_of_none n edge bound o
 rounds_of_listed n edge bound set (q ∷ qs) o =
     rounds_of_union edge bound (λ r. set q && eqb r q) (λ r. list_any (λ p. set p && eqb r p) qs) n o ∙ rw (rounds_of_one n edge bound q o (set q), rounds_of_listed n edge bound set qs o) refl

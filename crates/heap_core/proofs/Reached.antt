@@ -80,7 +80,8 @@ reached_closure s bound small o = (in_closure s bound small o, rounds_each (Reac
         at_cell p q cell.0 from cell.1 cell.2
 
 -- where exactly the objects that are reached are done, all are done exactly where all are reached
-pub all_done : (s : Start) (ss : List Stage) → length ss ≡ length s.objects → ((o : ℕ) → o < length s.objects → is_done (stage_of ss o) ≡ is_reached s o) → (list_all is_done ss ≡ true) ↔ ((o : ℕ) → o < length s.objects → Reached s o)
+pub all_done : (s : Start) (ss : List Stage)
+    → length ss ≡ length s.objects → ((o : ℕ) → o < length s.objects → is_done (stage_of ss o) ≡ is_reached s o) → (list_all is_done ss ≡ true) ↔ ((o : ℕ) → o < length s.objects → Reached s o)
 all_done s ss sized done = (there, back)
   where
     same : (o : ℕ) → Reached s o ↔ (is_reached s o ≡ true)

@@ -97,7 +97,8 @@ upon_both a b ss ts us first second = record {
 }
 
 -- one after the other of a list
-pub upon_all : {A : Type 0} (set : A → ℕ → Bool) (put : List Stage → A → List Stage) → ((ss : List Stage) (x : A) → Upon (set x) ss (put ss x)) → (xs : List A) (ss : List Stage) → Upon (λ o. list_any (λ x. set x o) xs) ss (fold put ss xs)
+pub upon_all : {A : Type 0} (set : A → ℕ → Bool) (put : List Stage → A → List Stage)
+    → ((ss : List Stage) (x : A) → Upon (set x) ss (put ss x)) → (xs : List A) (ss : List Stage) → Upon (λ o. list_any (λ x. set x o) xs) ss (fold put ss xs)
 upon_all set put each [] ss = upon_none ss
 upon_all set put each (x ∷ xs) ss =
     upon_both (set x) (λ o. list_any (λ y. set y o) xs) ss (put ss x) (fold put (put ss x) xs) (each ss x) (upon_all set put each xs (put ss x))
@@ -117,7 +118,8 @@ pub record Visits (size : ℕ) (edge : Graph) (roots set : ℕ → Bool) (stages
   pub closed : (p o : ℕ) → is_done (stage_of stages p) ≡ true → edge p o ≡ true → is_unseen (stage_of stages o) ≡ false
 
 -- after the roots were come upon, where no object was
-pub begun : (edge : Graph) (roots set : ℕ → Bool) (ss ts : List Stage) → BeginsBelow (length ss) edge → Within roots set → ((o : ℕ) → o < length ss → is_unseen (stage_of ss o) ≡ true) → Upon roots ss ts → Visits (length ss) edge roots set ts
+pub begun : (edge : Graph) (roots set : ℕ → Bool) (ss ts : List Stage)
+    → BeginsBelow (length ss) edge → Within roots set → ((o : ℕ) → o < length ss → is_unseen (stage_of ss o) ≡ true) → Upon roots ss ts → Visits (length ss) edge roots set ts
 begun edge roots set ss ts begins holds fresh upon = record {
   sized = upon.sized;
   sound = λ o within is.
@@ -142,7 +144,8 @@ left-done : (ss : List Stage) (p : ℕ) → is_waiting (stage_of ss p) ≡ true 
 left-done ss p waits = grind (arith, common_steps, waiting_within, sum_by-set)
 
 -- after what the edges lead to from an object that waited was come upon
-pub turned : (size : ℕ) (edge : Graph) (roots set : ℕ → Bool) (ss ts : List Stage) (p : ℕ) → IsClosed edge set → Visits size edge roots set ss → is_waiting (stage_of ss p) ≡ true → Upon (edge p) (slice_set ss p Done) ts → Visits size edge roots set ts
+pub turned : (size : ℕ) (edge : Graph) (roots set : ℕ → Bool) (ss ts : List Stage) (p : ℕ)
+    → IsClosed edge set → Visits size edge roots set ss → is_waiting (stage_of ss p) ≡ true → Upon (edge p) (slice_set ss p Done) ts → Visits size edge roots set ts
 turned size edge roots set ss ts p closed visits waits upon = record {
   sized = upon.sized ∙ length-done ss p ∙ visits.sized;
   sound = λ o within is.
@@ -163,7 +166,8 @@ pub left_turned : (set : ℕ → Bool) (ss ts : List Stage) (p : ℕ) → is_wai
 left_turned set ss ts p waits upon = ap (λ n. n + 1) upon.as_many_left ∙ left-done ss p waits
 
 -- where none waits, exactly the objects of the set are done
-pub ended : (size : ℕ) (edge : Graph) (roots set : ℕ → Bool) (ss : List Stage) → IsLeastClosed edge roots set → Visits size edge roots set ss → ((o : ℕ) → is_waiting (stage_of ss o) ≡ false) → (o : ℕ) → o < size → is_done (stage_of ss o) ≡ set o
+pub ended : (size : ℕ) (edge : Graph) (roots set : ℕ → Bool) (ss : List Stage)
+    → IsLeastClosed edge roots set → Visits size edge roots set ss → ((o : ℕ) → is_waiting (stage_of ss o) ≡ false) → (o : ℕ) → o < size → is_done (stage_of ss o) ≡ set o
 ended size edge roots set ss least visits none o within =
     same_from_decides (is_done (stage_of ss o)) (set o)
     (λ is. visits.sound o within (done_seen (stage_of ss o) is), λ is. done o (least.least (λ q. not (is_unseen (stage_of ss q))) rooted closed o is)) (λ is. is, λ is. is)

@@ -21,4 +21,5 @@ returns-in-Null c =
     count_same (λ o. is_done (stage_of c.visit.new.stages o)) set 0 c.problem.inside.scope.objects (λ o below. c.visit.ensures o (omega (arith, below, few)))
     in
     let counted : c.done_below-count.result ≡ count_by set (range_with_len 0 env.objects) = c.done_below-count.ensures.counted ∙ first ∙ ap (λ (s : Scope). count_by set (range_with_len 0 s.objects)) problem in
-    c.number_of.ensures ∙ ap (λ (n : ℕ). number c.problem.inside.scope.ints (pos n)) counted ∙ ap (λ (s : Scope). number s.ints (pos (count_by set (range_with_len 0 env.objects)))) problem ∙ sym (size_of env c.args.fields.now c.args.from c.in-Null.is)
+    c.number_of.ensures ∙ ap (λ (n : ℕ). number c.problem.inside.scope.ints (pos n)) counted
+    ∙ ap (λ (s : Scope). number s.ints (pos (count_by set (range_with_len 0 env.objects)))) problem ∙ sym (size_of env c.args.fields.now c.args.from c.in-Null.is)

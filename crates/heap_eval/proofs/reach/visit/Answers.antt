@@ -1,9 +1,10 @@
-use Rattle.std.proofs.Common.{◌≡◌, ◌≤◌, length, subst, ap, arith, slice_set}
+use Rattle.std.proofs.Common.{◌≡◌, ◌<◌, ◌≤◌, ℕ, true, length, subst, ap, arith, slice_set}
 use Rattle.heap_core.specs.Posed.{Posed}
 use Rattle.heap_core.specs.declared.visit.Stage.TheVariants.{Done}
 use Rattle.heap_core.specs.Outcomes.{is_object}
 use Rattle.heap_core.specs.Eval.{points, reached}
-use Rattle.heap_core.specs.Stages.{found}
+use Rattle.heap_core.specs.Closure.{BeginsBelow}
+use Rattle.heap_core.specs.Stages.{found, is_unseen, stage_of}
 use Rattle.heap_core.proofs.Reach.{points_within, reach_is_least_closed}
 use Rattle.heap_core.proofs.Visiting.{Visits, Upon, upon_value, begun, turned, left_turned, ended}
 use Rattle.heap_eval.specs.Environs.{env_of}
@@ -23,8 +24,10 @@ loop-place-init c =
     let least = reach_is_least_closed env fields from c.requires.within.now in
     let objects : c.problem.inside.scope.objects ≡ env.objects = ap (λ (p : Posed). p.scope.objects) c.problem.view_is in
     let small : length env.heap ≤ length before = omega (arith, objects, c.requires.within.now, c.requires.sized, c.problem.invariant.scope.objects_high) in
+    let inside : BeginsBelow (length before) (points env fields) = λ p o to. omega (arith, points_within env fields p o to, small) in
+    let fresh : (o : ℕ) → o < length before → is_unseen (stage_of before o) ≡ true = λ o within. c.requires.fresh o (omega (arith, within, c.requires.sized)) in
     subst (λ n. Visits n (points env fields) (λ o. is_object o from) (reached env fields from) after) c.requires.sized
-    (begun (points env fields) (λ o. is_object o from) (reached env fields from) before after (λ p o to. omega (arith, points_within env fields p o to, small)) least.holds (λ o within. c.requires.fresh o (omega (arith, within, c.requires.sized))) upon)
+    (begun (points env fields) (λ o. is_object o from) (reached env fields from) before after inside least.holds fresh upon)
 
 pub loop-place-smaller : goal.loop-place-smaller
 loop-place-smaller c =
