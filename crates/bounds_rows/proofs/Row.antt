@@ -24,7 +24,8 @@ use Rattle.heap_core.specs.Posed.{Posed}
 use Rattle.canonical_order.specs.declared.tuple.Tuple.{Tuple}
 use Rattle.canonical_order.specs.declared.tuple.Tuple.TheVariants.{Root}
 use Rattle.canonical_order.specs.Canonical.{IsCanonical, places, first_place}
-use Rattle.canonical_order.specs.Tuples.{tuples, occurs, is_value}
+use Rattle.heap_core.specs.Outcomes.{is_value}
+use Rattle.canonical_order.specs.Tuples.{tuples, occurs}
 use Rattle.canonical_order.proofs.InOrder.{range_each_once}
 use Rattle.tuple_sets.specs.Numbered.{IsPossible, IsRefuted}
 use Rattle.bounds_table.specs.declared.event.Event.{Event}

@@ -7,13 +7,13 @@ ghost use Rattle.bounds_rows.specs.Row.{link, row as row_lem};
 
 use bounds_table::{Bounds, Core, Event, Mark, Pass, Reply};
 use canonical_order::{Tuple, tuple_at, tuple_count};
-use heap_core::{Problem, Scope, Value};
+use heap_core::{Problem, Value};
 use no_memory::NoMemory;
 use sqlite_items::Items;
 use std::alloc::Global;
 use std::test::Fail;
 use std::thread::{Threads, join};
-use taco_unit::{ClassDef, FieldDef, Kind, MethodDef, Name, Stmt, Unit};
+use taco_unit::{ClassDef, FieldDef, Kind, MethodDef, Name, Scope, Stmt, Unit};
 
 fn one_class(alloc: Global) -> Result<Items<ClassDef>, NoMemory>
     ensures { IfOk result (λ l. l ≡ record { name = 76 ∷ []; fields = 0 ∷ []; methods = 0 ∷ []; invariants = [] } ∷ []) }

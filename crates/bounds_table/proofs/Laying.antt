@@ -17,7 +17,7 @@ use Rattle.bounds_table.specs.State.{State, IsSound, IsLive, known_of, blank}
 use Rattle.bounds_table.proofs.Showing.{worker_at}
 use Rattle.bounds_table.proofs.Allowed.{some_live}
 use Rattle.bounds_table.specs.Core.{tuple_count, first, opening}
-use Rattle.bounds_table.specs.Rule.{shown, first_view, spare}
+use Rattle.bounds_table.specs.Rule.{shown, first_view, spare, opening_words}
 
 -- one word more of a part
 take_more : (xs : List ℕ) (at x : ℕ) → get_elem? xs at ≡ some x → take (suc at) xs ≡ take at xs ++ x ∷ []
@@ -42,7 +42,7 @@ pub spare_room : (n : ℕ) → (n ≤ spare n) × (8 * n ≤ spare n - n) × (0 
 spare_room n = room (n == 0) n (eqb_tells n 0)
 
 -- the words at first show the opening state
-pub opening_shown : (p : Posed) (cells : List ℕ) → cells ≡ all_below (tuple_count p) ++ none_of (spare (word_count p)) → opening p ≡ shown p cells (first_view p ∷ [])
+pub opening_shown : (p : Posed) (cells : List ℕ) → cells ≡ opening_words p → opening p ≡ shown p cells (first_view p ∷ [])
 opening_shown p cells e =
     let all = all_below (tuple_count p) in
     let none = none_of (spare (word_count p)) in

@@ -1,5 +1,5 @@
 -- What workers may do to the table, one step after another. (This project's own.)
-use Rattle.std.specs.Prelude.{◌≡◌, ℕ, ◌+◌, ◌*◌, ◌/◌, ◌<◌, ◌≤◌, ◌≢◌, Bool, false, ◌&&◌, ◌==◌, if◌then◌else◌, List, [], ◌∷◌, ◌++◌, length, slice_index, slice_set, Option, Some, None}
+use Rattle.std.specs.Prelude.{◌≡◌, ℕ, ◌+◌, ◌*◌, ◌/◌, ◌<◌, ◌≤◌, ◌≢◌, Bool, false, ◌&&◌, ◌||◌, ◌==◌, IsFalse, if◌then◌else◌, List, [], ◌∷◌, ◌++◌, length, slice_index, slice_index_or, slice_set, Option, Some, None}
 use Rattle.std.specs.Int.{bit_at}
 use Rattle.heap_core.specs.Posed.{Posed}
 use Rattle.canonical_order.specs.Tuples.{tuples}
@@ -153,6 +153,21 @@ pub record HasOneClaimant (s : State) : Type 0 where
 
 abbrev pub ClaimsAreApart : Type 0
 ClaimsAreApart = (s : State) → IsSound s → HasOneClaimant s
+
+-- the event is one of this worker: it acts, or it ends
+abbrev pub is_of_worker : ℕ → Event → Bool
+is_of_worker u (Claim w r t) = u == w
+is_of_worker u (CopyWord w i) = u == w
+is_of_worker u (Clear w t) = u == w
+is_of_worker u (KeepWord w i bits) = u == w
+is_of_worker u (SeeKept w i) = u == w
+is_of_worker u (Split w) = u == w
+is_of_worker u (Join w v) = u == w || u == v
+
+-- what a worker knows is changed by its own events alone
+abbrev pub OthersKeepAll : Type 0
+OthersKeepAll =
+    (s : State) (e : Event) (u : ℕ) → IsLawful s e → IsLive s u → IsFalse (is_of_worker u e) → slice_index_or (after s e).workers u None ≡ slice_index_or s.workers u None
 
 -- a worker is made
 abbrev pub IsSplit : Event → Type 0

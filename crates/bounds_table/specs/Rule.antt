@@ -1,10 +1,10 @@
 -- The rule of the words that threads share: they and the views of all passes show a state of the table, and it is
 -- sound. (This project's own.)
-use Rattle.std.specs.Prelude.{◌≡◌, ℕ, ◌*◌, ◌^◌, ◌<◌, ◌≤◌, List, take, drop, map, Option, Some, None, option_map, ◌==◌, if◌then◌else◌}
+use Rattle.std.specs.Prelude.{◌≡◌, ℕ, ◌*◌, ◌^◌, ◌<◌, ◌≤◌, ◌++◌, List, take, drop, map, Option, Some, None, option_map, ◌==◌, if◌then◌else◌}
 use Rattle.atomic_table.specs.Table.{State as Shared}
 use Rattle.atomic_table.specs.Seated.{TableId}
 use Rattle.heap_core.specs.Posed.{Posed}
-use Rattle.tuple_sets.specs.Words.{has}
+use Rattle.tuple_sets.specs.Words.{has, all_below, none_of}
 use Rattle.tuple_sets.specs.Numbered.{word_count}
 use Rattle.bounds_table.specs.declared.known.Known.{Known}
 use Rattle.bounds_table.specs.declared.rule.View.{View}
@@ -66,6 +66,10 @@ pub record IsGained (c : ℕ) (old new : Known) : Type 0 where
 -- how many words there are behind those of the table: one that is not used, where there are no tuples
 abbrev pub spare : ℕ → ℕ
 spare words = if words == 0 then 1 else 9 * words
+
+-- the words at first: all tuples are in the table, none is kept, and none is claimed in any round
+abbrev pub opening_words : Posed → List ℕ
+opening_words p = all_below (tuple_count p) ++ none_of (spare (word_count p))
 
 -- how a table is laid out: as many words as its tuples have, ten times over, and at least one
 pub record IsLaidOut (p : Posed) (count n : ℕ) (t : TableId) : Type 0 where

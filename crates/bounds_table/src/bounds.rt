@@ -1,11 +1,11 @@
-ghost use Rattle.std.specs.Prelude.{◌≡◌, ℕ, ◌+◌, ◌*◌, ◌/◌, ◌^◌, ◌<◌, ◌≤◌, ◌↔◌, ◌++◌, IsTrue, IfOk, length, slice_index, slice_set, take, drop};
+ghost use Rattle.std.specs.Prelude.{◌≡◌, ℕ, ◌+◌, ◌*◌, ◌/◌, ◌^◌, ◌<◌, ◌≤◌, ◌↔◌, IsTrue, IfOk, length, slice_index, slice_set, take, drop};
 ghost use Rattle.std.specs.Int.{bit_at};
 ghost use Rattle.std.specs.Mem.Slots.{slots_items, slots_len, IsFull};
-ghost use Rattle.tuple_sets.specs.Words.{has, IsWithin, none_of, all_below as all_below_lem};
+ghost use Rattle.tuple_sets.specs.Words.{has, IsWithin};
 ghost use Rattle.tuple_sets.specs.Numbered.{word_count, IsImpossible, IsRefuted};
 ghost use Rattle.bounds_table.specs.State.{pair, IsLater};
 ghost use Rattle.bounds_table.specs.Core.{tuple_count as tuples_of, first, ArePossible, claiming, without_claims, joined};
-ghost use Rattle.bounds_table.specs.Rule.{IsOf, IsGained, spare};
+ghost use Rattle.bounds_table.specs.Rule.{IsOf, IsGained, spare, opening_words as opening_words_lem};
 ghost use Rattle.bounds_table.specs.Plays.{IsRight};
 ghost use Rattle.bounds_table.specs.Marks.{AreOf, AreSound};
 
@@ -77,13 +77,14 @@ fn spare_of(words: usize) -> usize
 }
 
 /// The words at first: those of all tuples, and behind them the empty ones of the kept tuples and
-/// of the claims.
-fn opening_words(alloc: Global, tuples: u32, words: usize) -> Result<Items<u64>, NoMemory>
-    requires { words < 2 ^ 32 }
-    ensures { IfOk result (λ l. l ≡ all_below_lem tuples ++ none_of (spare words)) }
+/// of the claims. That the table begins with them no clause can say: what `Table::of_words` ensures
+/// tells nothing of the words that it is given but that the rule holds of them.
+fn opening_words(alloc: Global, problem: &Problem) -> Result<Items<u64>, NoMemory>
+    ensures { IfOk result (λ l. l ≡ opening_words_lem problem.now) }
 {
+    let tuples = tuple_count(problem);
     let mut cells = all_below(alloc, tuples)?;
-    for _ in 0..spare_of(words) {
+    for _ in 0..spare_of(words_for(tuples)) {
         cells.push(0)?;
     }
     Ok(cells)
@@ -98,7 +99,7 @@ impl Bounds {
     {
         let tuples = tuple_count(problem);
         let words = words_for(tuples);
-        let cells = opening_words(alloc, tuples, words)?;
+        let cells = opening_words(alloc, problem)?;
         let (table, seat) = Table::of_words(alloc, cells.as_slice(), problem)?;
         Ok((
             Bounds {

@@ -1,4 +1,4 @@
-ghost use Rattle.bounds_table.specs.Core.{StaysSafe, NeverGoesBack, IsClaimedOnce, ClaimsAreApart};
+ghost use Rattle.bounds_table.specs.Core.{StaysSafe, NeverGoesBack, OthersKeepAll, IsClaimedOnce, ClaimsAreApart};
 ghost use Rattle.bounds_table.specs.Marks.{ExactMarksAgree};
 
 /// A law: after every list of lawful events from the opening state the state is safe.
@@ -9,6 +9,11 @@ pub fn stays_safe()
 /// A law: no worker regains a tuple, or loses a kept one, or forgets a claim.
 pub fn never_goes_back()
     ensures { NeverGoesBack }
+{}
+
+/// A law: what a worker knows, and that it is live, is changed by no event of others.
+pub fn others_keep_all()
+    ensures { OthersKeepAll }
 {}
 
 /// A law: of all claims of one pair of round and tuple one at most is answered true.

@@ -6,17 +6,9 @@ use Rattle.std.specs.Option.{option_map_or}
 use Rattle.std.proofs.lemmas.List.Concat.{flat_map-cons}
 use Rattle.std.proofs.lemmas.List.{length-append}
 use Rattle.std.proofs.lemmas.List.Sums.{sum_by-cons}
-
-pub slice_get-append_left : {A : Type 0} (xs ys : List A) (i : ℕ) → i < length xs → slice_get (xs ++ ys) i ≡ slice_get xs i
-slice_get-append_left [] ys i within = absurd (omega arith)
-slice_get-append_left (x ∷ xs) ys zero within = refl
-slice_get-append_left (x ∷ xs) ys (suc i) within = slice_get-append_left xs ys i (omega arith)
-
-pub slice_get-append_right : {A : Type 0} (xs ys : List A) (i : ℕ) → slice_get (xs ++ ys) (length xs + i) ≡ slice_get ys i
-slice_get-append_right [] ys i = ap (slice_get ys) (omega arith)
-slice_get-append_right (x ∷ xs) ys i =
-    let e : suc (length xs) + i ≡ suc (length xs + i) = omega arith in
-    ap (slice_get (x ∷ (xs ++ ys))) e ∙ slice_get-append_right xs ys i
+use Rattle.std.proofs.lemmas.List.FromFn.{length-range_with_len}
+use Rattle.std.proofs.lemmas.Option.{slice_get_within}
+use Rattle.heap_core.proofs.Lists.{slice_get-append_left, slice_get-append_right}
 
 -- lists of n elements each
 pub length-each : {A B : Type 0} (f : A → List B) (n : ℕ) (xs : List A) → ((x : A) → length (f x) ≡ n) → length (flat_map f xs) ≡ length xs * n
@@ -58,3 +50,11 @@ pub slice_get-range : (a n i : ℕ) → i < n → slice_get (range_with_len a n)
 slice_get-range a zero i within = absurd (omega arith)
 slice_get-range a (suc n) zero within = ap Some (omega arith)
 slice_get-range a (suc n) (suc i) within = slice_get-range (a + 1) n i (omega arith) ∙ ap Some (omega arith)
+
+-- what a range has at a place
+pub range_at : (n i o : ℕ) → slice_get (range_with_len 0 n) i ≡ Some o → (i < n) × (o ≡ i)
+range_at n i o there =
+    let inside : i < n = omega (arith, slice_get_within (range_with_len 0 n) i o there, length-range_with_len 0 n) in
+    let same : Some (0 + i) ≡ Some o = sym (slice_get-range 0 n i inside) ∙ there in
+    let equal : 0 + i ≡ o = cc in
+    (inside, omega (arith, equal))

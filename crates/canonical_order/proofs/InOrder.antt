@@ -2,7 +2,6 @@
 use Rattle.std.proofs.Common.{◌≡◌, ◌↔◌, ℕ, zero, suc, ◌+◌, ◌<◌, List, [], ◌∷◌, ◌++◌, length, Some, refl, sym, ◌∙◌, ap, subst, arith, append_assoc}
 use Rattle.std.specs.Prelude.{map, flat_map, slice_get, slice_index, Contains, option_to_list}
 use Rattle.std.specs.List.{range_with_len}
-use Rattle.std.proofs.lemmas.Option.{slice_get_within}
 use Rattle.std.proofs.lemmas.List.{length-append, append-nil}
 use Rattle.std.proofs.lemmas.List.Concat.{flat_map-cons}
 use Rattle.std.proofs.lemmas.List.Elements.{Contains-append_left, Contains-append_right}
@@ -15,7 +14,7 @@ use Rattle.heap_core.specs.Posed.{Posed}
 use Rattle.heap_core.specs.Start.{Fits, Reached, root, held}
 use Rattle.canonical_order.specs.Canonical.{cells_of, places, first_place, HoldsEachOnce, IsCanonical}
 use Rattle.canonical_order.specs.Meeting.{met_all, places_in_order}
-use Rattle.canonical_order.proofs.Counting.{slice_get-range}
+use Rattle.canonical_order.proofs.Counting.{range_at}
 use Rattle.canonical_order.proofs.FirstPlaces.{first_within}
 use Rattle.canonical_order.proofs.Meeting.{IsMet, met_rises, rises_met}
 
@@ -64,18 +63,11 @@ reached_placed s _ (held p o x from there cell) =
 
 -- ## 0, 1, 2 and so on holds each number once
 
-in_range : (n i o : ℕ) → slice_get (range_with_len 0 n) i ≡ Some o → (i < n) × (o ≡ i)
-in_range n i o there =
-    let inside : i < n = omega (arith, slice_get_within (range_with_len 0 n) i o there, length-range_with_len 0 n) in
-    let same : Some (0 + i) ≡ Some o = sym (slice_get-range 0 n i inside) ∙ there in
-    let equal : 0 + i ≡ o = cc in
-    (inside, omega (arith, equal))
-
 pub range_each_once : (n : ℕ) → HoldsEachOnce (range_with_len 0 n) n
 range_each_once n = record {
   as_many = length-range_with_len 0 n;
-  within = λ i o there. omega (arith, (in_range n i o there).0, (in_range n i o there).1);
-  apart = λ i j o here there. omega (arith, (in_range n i o here).1, (in_range n j o there).1);
+  within = λ i o there. omega (arith, (range_at n i o there).0, (range_at n i o there).1);
+  apart = λ i j o here there. omega (arith, (range_at n i o here).1, (range_at n j o there).1);
   each = λ o within. (o, omega (arith, within, length-range_with_len 0 n), get_or-range_with_len 0 n o o within ∙ omega arith);
 }
 

@@ -1,4 +1,5 @@
 pub mod Counting
+pub mod Links
 pub mod FirstPlaces
 pub mod Meeting
 pub mod InOrder

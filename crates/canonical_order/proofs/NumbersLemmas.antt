@@ -1,5 +1,5 @@
 -- The table of new numbers is filled place by place.
-use Rattle.std.proofs.Common.{◌≡◌, ℕ, zero, suc, ◌+◌, ◌<◌, ◌≤◌, not, List, [], ◌∷◌, length, Some, refl, sym, ◌∙◌, ap, inl, inr, arith, get_or, set}
+use Rattle.std.proofs.Common.{◌≡◌, ℕ, zero, suc, ◌+◌, ◌<◌, ◌≤◌, not, List, [], ◌∷◌, length, Some, sym, ◌∙◌, ap, inl, inr, arith, get_or, set}
 use Rattle.std.specs.Prelude.{◌==◌, slice_get}
 use Rattle.std.proofs.lemmas.Bool.{cases_eq, cases_lt, eqb-true}
 use Rattle.std.proofs.lemmas.List.{length-set}
@@ -7,17 +7,12 @@ use Rattle.std.proofs.lemmas.List.Sums.{passes_at_first, prefix_len-le-length}
 use Rattle.std.proofs.lemmas.Option.{slice_get_within, slice_get-get_or}
 use Rattle.canonical_order.specs.Canonical.{HoldsEachOnce, number_in}
 use Rattle.canonical_order.specs.Numbers.{AreNumbers}
-use Rattle.canonical_order.proofs.TableMet.{set_apart}
+use Rattle.heap_core.proofs.Lists.{set_at, set_apart}
 
 -- the objects at the first places have their numbers
 pub record AreFilled (table order : List ℕ) (k : ℕ) : Type 0 where
   pub as_many : length table ≡ length order
   pub filled : (i o : ℕ) → i < k → slice_get order i ≡ Some o → slice_get table o ≡ Some i
-
-pub set_at : {A : Type 0} (xs : List A) (i : ℕ) (v : A) → i < length xs → slice_get (set xs i v) i ≡ Some v
-set_at [] i v inside = absurd (omega (arith, inside))
-set_at (x ∷ xs) zero v inside = refl
-set_at (x ∷ xs) (suc i) v inside = set_at xs i v (omega (arith, inside))
 
 pub fill : (table order : List ℕ) (k o : ℕ) → HoldsEachOnce order (length order) → slice_get order k ≡ Some o → AreFilled table order k → AreFilled (set table o k) order (k + 1)
 fill table order k o once there f = record {

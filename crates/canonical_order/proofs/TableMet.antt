@@ -1,9 +1,10 @@
 -- The table that tells which objects were met.
-use Rattle.std.proofs.Common.{◌≡◌, ℕ, zero, suc, ◌<◌, Bool, true, false, List, [], ◌∷◌, ◌++◌, length, Some, refl, sym, ◌∙◌, ap, inl, inr, arith, set}
+use Rattle.std.proofs.Common.{◌≡◌, ℕ, zero, suc, ◌<◌, Bool, true, false, List, [], ◌∷◌, ◌++◌, length, Some, sym, ◌∙◌, ap, inl, inr, arith, set}
 use Rattle.std.specs.Prelude.{◌==◌, slice_get}
 use Rattle.std.proofs.lemmas.Bool.{cases_eq, eq-eqb, ne_eqb}
 use Rattle.std.proofs.lemmas.List.{length-set}
 use Rattle.std.proofs.lemmas.List.Folds.{list_any-append}
+use Rattle.heap_core.proofs.Lists.{set_apart}
 use Rattle.canonical_order.specs.Met.{AreMet}
 use Rattle.canonical_order.proofs.Visited.{Before, Last, where_at}
 
@@ -11,13 +12,6 @@ set_there : {A : Type 0} (xs : List A) (i : ℕ) (v w : A) → slice_get (set xs
 set_there [] i v w there = absurd (cc)
 set_there (x ∷ xs) zero v w there = cc
 set_there (x ∷ xs) (suc i) v w there = set_there xs i v w there
-
-pub set_apart : {A : Type 0} (xs : List A) (i k : ℕ) (v : A) → (i ≡ k → ⊥) → slice_get (set xs i v) k ≡ slice_get xs k
-set_apart [] i k v apart = refl
-set_apart (x ∷ xs) zero zero v apart = absurd (apart refl)
-set_apart (x ∷ xs) zero (suc k) v apart = refl
-set_apart (x ∷ xs) (suc i) zero v apart = refl
-set_apart (x ∷ xs) (suc i) (suc k) v apart = set_apart xs i k v (λ same. apart (ap suc same))
 
 pub none_met : (table : List Bool) → ((o : ℕ) (b : Bool) → slice_get table o ≡ Some b → b ≡ false) → AreMet table []
 none_met table none = record {

@@ -17,7 +17,8 @@ use Rattle.heap_core.specs.Start.{method_of}
 use Rattle.canonical_order.specs.declared.tuple.Tuple.{Tuple}
 use Rattle.canonical_order.specs.declared.tuple.Tuple.TheVariants.{Root, Field}
 use Rattle.canonical_order.specs.Tuples.{targets, roots_of, links_of, tuples_of_roots, tuples_of_links, root_tuples, field_tuples, tuples}
-use Rattle.canonical_order.proofs.Counting.{slice_get-range, slice_get-append_left, slice_get-append_right, slice_get-each, length-each, count_at}
+use Rattle.heap_core.proofs.Lists.{slice_get-append_left, slice_get-append_right}
+use Rattle.canonical_order.proofs.Counting.{slice_get-range, slice_get-each, length-each, count_at}
 
 pub target_at : (objects n : ℕ) → n ≤ objects → n ≢ 0 → slice_get (targets objects) n ≡ Some (Obj (n - 1))
 target_at objects zero within some = absurd (some refl)

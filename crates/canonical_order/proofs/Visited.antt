@@ -1,9 +1,9 @@
 -- What going along the places breadth first puts into the list is the visit of a start that fits.
-use Rattle.std.proofs.Common.{◌≡◌, ℕ, zero, suc, ◌+◌, ◌<◌, ◌≤◌, Bool, true, false, cond, eqb, not, ◌&&◌, List, [], ◌∷◌, ◌++◌, length, Option, Some, None, refl, sym, ◌∙◌, ap, subst, inl, inr, ◌⊎◌, arith, take, append_assoc, get_or}
+use Rattle.std.proofs.Common.{◌≡◌, ℕ, zero, suc, ◌+◌, ◌<◌, ◌≤◌, Bool, true, false, cond, eqb, not, ◌&&◌, List, [], ◌∷◌, ◌++◌, length, Option, Some, None, refl, sym, ◌∙◌, ap, subst, inl, inr, arith, take, append_assoc, get_or}
 use Rattle.std.specs.Prelude.{map, flat_map, fold, nat_lt, ◌==◌, slice_get, slice_index, Contains, option_to_list}
 use Rattle.std.specs.List.{range_with_len, list_any, AllByRecursion, IsDistinct}
 use Rattle.std.specs.Cmp.{IsEquivalence}
-use Rattle.std.proofs.lemmas.Bool.{cases_lt, cases_eq, false≢true, eq-eqb, eqb-true, lt-ltb, le-ltb, ne_eqb}
+use Rattle.std.proofs.lemmas.Bool.{cases_Bool, cases_lt, cases_eq, false≢true, eq-eqb, eqb-true, lt-ltb, le-ltb, ne_eqb}
 use Rattle.std.proofs.lemmas.Grind.{flat_map-append}
 use Rattle.std.proofs.lemmas.Option.{slice_get_within, slice_get-get_or, get_or_from_slice_get}
 use Rattle.std.proofs.lemmas.List.{length-append, length-map, append-nil, take_all, take_more, take-append-le}
@@ -22,7 +22,8 @@ use Rattle.heap_core.specs.Outcomes.{is_object}
 use Rattle.heap_core.specs.Start.{Fits, Reached, root, held}
 use Rattle.canonical_order.specs.Canonical.{cells_of, places, first_place, IsVisit}
 use Rattle.canonical_order.specs.Visiting.{with_value, with_values, with_fields, visited}
-use Rattle.canonical_order.proofs.Counting.{slice_get-append_left, slice_get-append_right, slice_get-range}
+use Rattle.heap_core.proofs.Lists.{slice_get-append_left, slice_get-append_right}
+use Rattle.canonical_order.proofs.Counting.{range_at}
 use Rattle.canonical_order.proofs.FirstPlaces.{stays, behind, first_within, contains_each}
 
 abbrev is_in : List ℕ → ℕ → Bool
@@ -35,10 +36,6 @@ pub record IsMetAlong (n : ℕ) (us : List Value) (order : List ℕ) : Type 0 wh
   pub small : (i o : ℕ) → slice_get order i ≡ Some o → o < n
   pub placed : (i o : ℕ) → slice_get order i ≡ Some o → first_place us o < length us
   pub rising : (i j a b : ℕ) → i < j → slice_get order i ≡ Some a → slice_get order j ≡ Some b → first_place us a < first_place us b
-
-tested : (b : Bool) → (b ≡ true) ⊎ (b ≡ false)
-tested true = inl refl
-tested false = inr refl
 
 one_longer : (us : List Value) (v : Value) → length (us ++ v ∷ []) ≡ length us + 1
 one_longer us v = length-append us (v ∷ []) ∙ omega arith
@@ -83,7 +80,7 @@ pass n us order v old m = record {
 }
   where
     shows : (v : Value) (o : ℕ) → first_place (v ∷ []) o < 1 → is_object o v ≡ true
-    shows v o here = elim (tested (is_object o v)) [ inl is ↦ is | inr none ↦ absurd (grind (arith, none, here)) ]
+    shows v o here = elim (cases_Bool (is_object o v)) [ inl is ↦ is | inr none ↦ absurd (grind (arith, none, here)) ]
 
 -- an object below n that was not met yet
 meet : (n : ℕ) (us : List Value) (order : List ℕ) (o : ℕ) → o < n → is_in order o ≡ false → IsMetAlong n us order → IsMetAlong n (us ++ Obj o ∷ []) (order ++ o ∷ [])
@@ -128,7 +125,7 @@ meet n us order o below new m = record {
 step : (n : ℕ) (us : List Value) (order : List ℕ) (v : Value) → IsMetAlong n us order → IsMetAlong n (us ++ v ∷ []) (with_value n order v)
 step n us order (Obj o) m =
     elim (cases_lt o n) [
-      | inl below ↦ elim (tested (is_in order o)) [
+      | inl below ↦ elim (cases_Bool (is_in order o)) [
         | inl old ↦ rw (lt-ltb o n below, old) (pass n us order (Obj o) (λ q small is. subst (λ x. is_in order x ≡ true) (sym (eqb-true q o is)) old) m)
         | inr new ↦ rw (lt-ltb o n below, new) (meet n us order o below new m)
       ]
@@ -282,13 +279,6 @@ eqb_laws = record {
   symm = λ x y. grind arith;
   congr = λ x y z same. ap (λ w. eqb w z) (eqb-true x y same);
 }
-
-range_at : (n i o : ℕ) → slice_get (range_with_len 0 n) i ≡ Some o → (i < n) × (o ≡ i)
-range_at n i o there =
-    let inside : i < n = omega (arith, slice_get_within (range_with_len 0 n) i o there, length-range_with_len 0 n) in
-    let same : Some (0 + i) ≡ Some o = sym (slice_get-range 0 n i inside) ∙ there in
-    let equal : 0 + i ≡ o = cc in
-    (inside, omega (arith, equal))
 
 whole : (n : ℕ) (order : List ℕ) → ((o : ℕ) → o < n → is_in order o ≡ true) → n ≤ length order
 whole n order each =

@@ -1,5 +1,6 @@
 pub mod Canonical
 pub mod Laws
+pub mod Links
 pub mod Meeting
 pub mod Met
 pub mod Numbers

@@ -1,19 +1,16 @@
 -- The tuples of a problem. (This project's own; the TACO article, "Computing Tight Field Bounds", gives the
 -- purpose: a tuple that no canonical heap holds may be left out.)
-use Rattle.std.specs.Prelude.{not, ◌+◌, ℕ, zero, suc, ◌==◌, Bool, true, false, List, [], ◌∷◌, ◌++◌, length, map, filter, flat_map, slice_get, IsTrue}
+use Rattle.std.specs.Prelude.{not, ◌+◌, ℕ, zero, suc, Bool, false, List, [], ◌∷◌, ◌++◌, length, map, filter, flat_map, slice_get, IsTrue}
 use Rattle.std.specs.List.{range_with_len}
 use Rattle.std.specs.Option.{option_map_or}
-use Rattle.std.specs.Ordering.{int_eq}
 use Rattle.taco_unit.specs.declared.unit.MethodDef.{MethodDef}
 use Rattle.taco_unit.specs.Parts.{Parts}
 use Rattle.taco_unit.specs.Kinds.{is_class_kind}
 use Rattle.heap_core.specs.declared.value.Value.{Value}
-use Rattle.heap_core.specs.declared.value.Value.TheVariants.{Null, Obj, Num, Flag}
-use Rattle.heap_core.specs.declared.value.Seen.{Seen}
-use Rattle.heap_core.specs.declared.value.Seen.TheVariants.{Is}
+use Rattle.heap_core.specs.declared.value.Value.TheVariants.{Null, Obj}
 use Rattle.heap_core.specs.declared.start.Start.{Start}
 use Rattle.heap_core.specs.Posed.{Posed}
-use Rattle.heap_core.specs.Outcomes.{same_flag}
+use Rattle.heap_core.specs.Outcomes.{is_value, gives}
 use Rattle.heap_core.specs.Heap.{field}
 use Rattle.heap_core.specs.Start.{Fits, method_of}
 use Rattle.heap_core.specs.Judge.{is_good}
@@ -59,19 +56,6 @@ field_tuples p = tuples_of_links p.scope.objects (links_of p.unit)
 
 abbrev pub tuples : Posed → List Tuple
 tuples p = root_tuples p ++ field_tuples p
-
--- two values are one
-abbrev pub is_value : Value → Value → Bool
-is_value Null Null = true
-is_value (Obj o) (Obj p) = o == p
-is_value (Num x) (Num y) = int_eq x y
-is_value (Flag a) (Flag b) = same_flag a b
-is_value _ _ = false
-
--- the evaluation gives the value
-abbrev pub gives : Value → Seen → Bool
-gives v (Is u) = is_value u v
-gives v _ = false
 
 -- the tuple occurs in the start: that root, or that field of that object, whose class declares the field, has
 -- that value

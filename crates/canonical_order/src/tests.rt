@@ -4,12 +4,13 @@ ghost use Rattle.taco_unit.specs.declared.stmt.Stmt.TheVariants.{Block};
 ghost use Rattle.canonical_order.specs.Canonical.{HoldsEachOnce};
 
 use super::*;
-use heap_core::{Object, Problem, Scope, Start, Value};
+use heap_core::{Object, Problem, Start, Value};
 use no_memory::NoMemory;
 use sqlite_items::Items;
 use std::alloc::Global;
 use std::test::Fail;
-use taco_unit::{ClassDef, MethodDef, Name, Stmt, Unit};
+use std::thread::join;
+use taco_unit::{ClassDef, MethodDef, Name, Scope, Stmt, Unit};
 
 /// A class with the method 0.
 fn class_with_method(alloc: Global) -> Result<Items<ClassDef>, NoMemory>
@@ -115,5 +116,16 @@ fn a_start_of_one_object_is_visited(rt: HostRuntime) -> Result<(), Fail> {
     assert!(rt; start.fits(&problem));
     let order = visit_order(rt.alloc(), &start, &problem)?;
     assert_eq!(rt; order.as_slice(), [0].as_slice());
+    Ok(())
+}
+
+#[test]
+fn threads_share_a_problem_and_hand_back_a_start(rt: HostRuntime) -> Result<(), Fail> {
+    let alloc = rt.alloc();
+    let problem = idle_problem(alloc)?;
+    let start = lone_start(alloc)?;
+    let (other, fits) = join(&rt, || lone_start(alloc), || start.fits(&problem));
+    assert!(rt; fits);
+    assert!(rt; other?.fits(&problem));
     Ok(())
 }

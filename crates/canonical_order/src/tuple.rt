@@ -1,11 +1,12 @@
 ghost use Rattle.std.specs.Prelude.{◌≡◌, ℕ, ◌+◌, ◌*◌, ◌≤◌, ◌<◌, length, slice_get, Some, IfSome, false};
-ghost use Rattle.canonical_order.specs.Tuples.{targets, tuples, roots_of, links_of, tuples_of_roots, tuples_of_links, is_value as is_value_lem, gives, occurs as occurs_lem};
+ghost use Rattle.canonical_order.specs.Tuples.{targets, tuples, roots_of, links_of, tuples_of_roots, tuples_of_links, occurs as occurs_lem};
+ghost use Rattle.heap_core.specs.Outcomes.{is_value as is_value_lem, gives};
 ghost use Rattle.heap_core.specs.Heap.{field as field_lem};
 ghost use Rattle.heap_core.specs.declared.value.Value.TheVariants.{Obj};
 ghost use Rattle.std.specs.Option.{option_map_or};
 
-use crate::roots::{link_at, link_count, method_at, root_at, root_count};
-use heap_core::{Object, Problem, Start, Value};
+use crate::roots::{link_at, link_count, root_at, root_count};
+use heap_core::{Object, Problem, Start, Value, method_in};
 use taco_unit::{MethodDef, Unit};
 
 /// That a root, or a class-kind field of an object, has a value: null or an object.
@@ -33,7 +34,8 @@ fn product_of(roots: usize, links: usize, objects: usize) -> u32
     requires few_roots { roots ≤ 9 }
     requires few_links { links ≤ 32 }
     requires few_objects { objects ≤ 12 }
-    ensures { result ≡ (roots + links * objects) * (objects + 1) }
+    ensures value { result ≡ (roots + links * objects) * (objects + 1) }
+    ensures few { result ≤ 5109 }
 {
     let cells = links * objects;
     let rows = roots + cells;
@@ -72,12 +74,13 @@ fn field_tuple(unit: &Unit, objects: u8, at: usize) -> Tuple
     }
 }
 
-/// How many tuples the problem has. Linear in the parameters of the method and the fields of the
-/// unit. Takes no memory.
+/// How many tuples the problem has, at most 5,109. Linear in the parameters of the method and the
+/// fields of the unit. Takes no memory.
 pub fn tuple_count(problem: &Problem) -> u32
-    ensures { result ≡ length (tuples problem.now) }
+    ensures value { result ≡ length (tuples problem.now) }
+    ensures few { result ≤ 5109 }
 {
-    let roots = root_count(method_at(&problem.unit, problem.method));
+    let roots = root_count(method_in(problem));
     let links = link_count(&problem.unit);
     product_of(roots, links, usize::from(problem.scope.objects))
 }
@@ -89,7 +92,7 @@ pub fn tuple_at(problem: &Problem, tuple: u32) -> Tuple
     requires { tuple < length (tuples problem.now) }
     ensures { slice_get (tuples problem.now) tuple ≡ Some result }
 {
-    let method = method_at(&problem.unit, problem.method);
+    let method = method_in(problem);
     let objects = problem.scope.objects;
     let at = tuple as usize;
     let roots = root_count(method) * (usize::from(objects) + 1);

@@ -2,19 +2,7 @@ ghost use Rattle.std.specs.Prelude.{◌≡◌, Ok};
 ghost use Rattle.declared_names.specs.Faults.{earlier as earlier_lem, key as key_lem, rank as rank_lem, sooner as sooner_lem, fault_of};
 ghost use Rattle.declared_names.specs.Seen.{on_two, with_fault};
 
-/// What a text may have too many of.
-#[derive(Clone, Copy, Debug, PartialEq, Eq)]
-pub enum Many {
-    Classes,
-    Fields,
-    RefFields,
-    Methods,
-    Params,
-    Locals,
-    Clauses,
-    Loops,
-    Quantifiers,
-}
+use refusals::Many;
 
 /// Why a tree stands for no unit, in the order that decides between two faults at one place.
 #[derive(Clone, Copy, Debug, PartialEq, Eq)]

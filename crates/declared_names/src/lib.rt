@@ -6,7 +6,7 @@ mod names;
 mod sort;
 mod world;
 
-pub use fault::{Cause, Fault, Many, beside, earlier, pair, sooner, unless};
+pub use fault::{Cause, Fault, beside, earlier, pair, sooner, unless};
 pub use names::Names;
 pub use sort::{Sort, fits, is_object};
 pub use world::{

@@ -1,13 +1,14 @@
 -- A choice between two lists of gates.
 use Rattle.std.proofs.Common.{◌≡◌, ℕ, ◌+◌, ◌<◌, Bool, true, false, List, [], ◌∷◌, ◌++◌, length, take, get_or, refl, sym, ap, ◌∙◌, arith, length-append}
 use Rattle.std.specs.Prelude.{if◌then◌else◌}
-use Rattle.std.proofs.lemmas.List.{take_more, take_all, map-append, append-nil}
+use Rattle.std.proofs.lemmas.List.{take_more, take_all, map-append}
 use Rattle.std.proofs.lemmas.List.Elements.{All-append, All-cons}
 use Rattle.gate_core.specs.declared.circuit.Node.{Node}
 use Rattle.gate_core.specs.Circuit.{value, IsOf, Keeps}
+use Rattle.gate_core.proofs.Values.{keeps_same, keeps_twice, all_more}
 use Rattle.gate_arith.specs.Operations.{bits, IsTruth, IsSelected}
 use Rattle.gate_arith.specs.Choice.{IsChoice}
-use Rattle.gate_arith.proofs.Ripple.{keeps_twice, all_more, bits_keep}
+use Rattle.gate_arith.proofs.Ripple.{bits_keep}
 
 same_choice : {X : Type 0} {x : X} (b : Bool) → x ≡ (if b then x else x)
 same_choice true = refl
@@ -15,7 +16,7 @@ same_choice false = refl
 
 pub chosen_none : (old : List Node) (condition : ℕ) (a b : List ℕ) → IsChoice old old condition a b 0 []
 chosen_none old condition a b = record {
-  keeps = record { more = []; behind = sym (append-nil old); values = λ inputs g h. refl };
+  keeps = keeps_same old old refl;
   of = λ k d h. absurd (omega arith);
   wide = refl;
   bits_are = λ inputs. same_choice (value inputs old condition);

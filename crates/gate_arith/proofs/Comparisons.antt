@@ -1,16 +1,17 @@
 -- Comparisons of numbers, place by place and then by their signs.
-use Rattle.std.proofs.Common.{◌≡◌, ℕ, suc, ◌+◌, ◌*◌, ◌^◌, ◌<◌, ◌≤◌, Bool, true, false, not, ◌&&◌, List, [], length, take, get_or, refl, sym, ap, subst, ◌∙◌, arith, ℤ, pos, ◌-ℤ◌}
+use Rattle.std.proofs.Common.{◌≡◌, ℕ, suc, ◌+◌, ◌*◌, ◌^◌, ◌<◌, ◌≤◌, Bool, true, false, not, ◌&&◌, List, length, take, get_or, refl, sym, ap, subst, ◌∙◌, arith, ℤ, pos, ◌-ℤ◌}
 use Rattle.std.specs.Prelude.{nat_lt, ◌==◌, int_lt, if◌then◌else◌}
 use Rattle.std.specs.Ordering.{int_eq}
 use Rattle.std.proofs.lemmas.Int.{ints}
 use Rattle.std.proofs.lemmas.Bool.Decides.{nat_tests}
-use Rattle.std.proofs.lemmas.List.{length-map, length-take-le, append-nil}
+use Rattle.std.proofs.lemmas.List.{length-map, length-take-le}
 use Rattle.gate_core.specs.declared.circuit.Node.{Node}
 use Rattle.gate_core.specs.Circuit.{value, IsOf, Keeps}
+use Rattle.gate_core.proofs.Values.{keeps_same, keeps_twice}
 use Rattle.gate_arith.specs.Numbers.{bit, number, differ}
 use Rattle.gate_arith.specs.Operations.{bits, shown, IsTruth}
 use Rattle.gate_arith.specs.Comparison.{IsTested}
-use Rattle.gate_arith.proofs.Ripple.{keeps_twice, number-take}
+use Rattle.gate_arith.proofs.Ripple.{number-take}
 use Rattle.gate_arith.proofs.Signed.{number_below}
 use Rattle.gate_arith.proofs.Sums.{shown_split}
 
@@ -26,7 +27,7 @@ same_step n m p true false low high = grind (arith, nat_tests)
 same_step n m p false true low high = grind (arith, nat_tests)
 same_step n m p false false low high = grind (arith, nat_tests)
 
-pub less_signs : (n m p : ℕ) (x y : Bool) → n < p → m < p → int_lt (pos n -ℤ pos (p * bit x)) (pos m -ℤ pos (p * bit y)) ≡ (if differ x y then x else nat_lt n m)
+pub less_signs : (n m p : ℕ) (x y : Bool) → n < p → m < p → int_lt (pos n -ℤ pos (p * bit x)) (pos m -ℤ pos (p * bit y)) ≡ (if differ y x then x else nat_lt n m)
 less_signs n m p true true low high = grind (arith, ints, nat_tests)
 less_signs n m p true false low high = grind (arith, ints, nat_tests)
 less_signs n m p false true low high = grind (arith, ints, nat_tests)
@@ -67,7 +68,7 @@ tested_more test step old middle new a b i x y gate next law tested in_a in_b at
 }
 
 pub tested_none : (test : ℕ → ℕ → Bool) (old : List Node) (a b : List ℕ) (gate : ℕ) → IsOf old gate → ((inputs : ℕ → Bool) → value inputs old gate ≡ test 0 0) → IsTested test old old a b 0 gate
-tested_none test old a b gate of is = record { keeps = record { more = []; behind = sym (append-nil old); values = λ inputs g h. refl }; of = of; truth = is }
+tested_none test old a b gate of is = record { keeps = keeps_same old old refl; of = of; truth = is }
 
 -- a whole comparison, from that of the lower places and of the signs
 pub compared : (of_signed : ℤ → ℤ → Bool) (test : ℕ → ℕ → Bool) (step : Bool → Bool → Bool → Bool) (old middle new : List Node) (a b : List ℕ) (top x y gate last : ℕ)

@@ -2,18 +2,19 @@
 use Rattle.std.proofs.Common.{◌≡◌, ℕ, zero, suc, ◌+◌, ◌-◌, ◌*◌, ◌^◌, ◌<◌, Bool, true, false, not, ◌||◌, List, [], ◌∷◌, ◌++◌, length, take, get_or, refl, sym, ap, subst, ◌∙◌, arith, length-append, pos, All}
 use Rattle.std.specs.Prelude.{nat_lt, nat_le, replicate}
 use Rattle.std.proofs.lemmas.Int.{ints}
-use Rattle.std.proofs.lemmas.List.{take_all, map-append, append-nil, length-map, length-replicate, get_or-replicate}
+use Rattle.std.proofs.lemmas.List.{take_all, map-append, length-map, length-replicate, get_or-replicate}
 use Rattle.std.proofs.lemmas.List.Elements.{All-append, All-cons}
 use Rattle.std.proofs.lemmas.Bool.Decides.{nat_tests}
-use Rattle.std.proofs.lemmas.Bool.{false≢true}
+use Rattle.std.proofs.lemmas.Bool.{false≢true, not-true}
 use Rattle.std.proofs.lemmas.Nat.{pow_pos}
 use Rattle.gate_core.specs.declared.circuit.Node.{Node}
 use Rattle.gate_core.specs.Circuit.{value, IsOf, Keeps}
+use Rattle.gate_core.proofs.Values.{keeps_same, keeps_twice, of_more, all_more}
 use Rattle.gate_arith.specs.Numbers.{bit, number, signed, is_within, how_many}
 use Rattle.gate_arith.specs.Operations.{bits, IsTruth, IsNumber}
 use Rattle.gate_arith.specs.Ripple.{IsPartial}
 use Rattle.gate_arith.specs.Counting.{IsCounted}
-use Rattle.gate_arith.proofs.Ripple.{keeps_twice, of_more, all_more, bits_keep}
+use Rattle.gate_arith.proofs.Ripple.{bits_keep}
 use Rattle.gate_arith.proofs.Signed.{signed_push, number_below}
 use Rattle.gate_arith.proofs.Choices.{bits-take}
 
@@ -36,7 +37,7 @@ above places = (let some : 0 < 2 ^ places = pow_pos places in grind (arith, nat_
 pub counted_none : (old : List Node) (counted : List ℕ) (places none : ℕ) → IsOf old none → ((inputs : ℕ → Bool) → value inputs old none ≡ false)
     → IsCounted old old counted places 0 (replicate places none) none
 counted_none old counted places none of is_false = record {
-  keeps = record { more = []; behind = sym (append-nil old); values = λ inputs g h. refl };
+  keeps = keeps_same old old refl;
   of = zeros_of old none places of;
   wide = length-replicate places none;
   over_of = of;
@@ -97,10 +98,6 @@ counted_more old middle third new counted places i x none over next carry low af
 not_over : (p h : ℕ) → not (nat_le p h) ≡ nat_lt h p
 not_over p h = grind (arith, nat_tests)
 
-from_not : (b : Bool) → not b ≡ true → b ≡ false
-from_not true h = absurd (false≢true h)
-from_not false h = refl
-
 pub counted_all : (old new : List Node) (counted : List ℕ) (places width none over within : ℕ) (low : List ℕ) → width ≡ suc places → IsCounted old new counted places (length counted) low over
     → IsOf old none → ((inputs : ℕ → Bool) → value inputs old none ≡ false)
     → IsOf new within → ((inputs : ℕ → Bool) → value inputs new within ≡ not (value inputs new over))
@@ -120,6 +117,6 @@ counted_all old new counted places width none over within low is_width part of_n
           ap signed (map-append (value inputs new) low (none ∷ []) ∙ ap (λ v. bits inputs new low ++ v ∷ []) (part.keeps.values inputs none of_none ∙ is_false inputs))
           ∙ signed_push (bits inputs new low) false
           ∙ (let shows : number (bits inputs new low) ≡ how_many (bits inputs old counted) =
-          part.low_is inputs (from_not (value inputs new over) (sym (negates inputs) ∙ test inputs ∙ fits)) ∙ whole inputs in
+          part.low_is inputs (not-true (value inputs new over) (sym (negates inputs) ∙ test inputs ∙ fits)) ∙ whole inputs in
           omega (arith, ints));
     }

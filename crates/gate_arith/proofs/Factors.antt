@@ -5,9 +5,10 @@ use Rattle.std.proofs.lemmas.Int.{ints}
 use Rattle.std.proofs.lemmas.List.{length-replicate, length-map, length-drop, get_or-map, drop_more, drop_all}
 use Rattle.gate_core.specs.declared.circuit.Node.{Node}
 use Rattle.gate_core.specs.Circuit.{value, IsOf, Keeps}
+use Rattle.gate_core.proofs.Values.{all_more}
 use Rattle.gate_arith.specs.Numbers.{bit, number, signed, is_within}
 use Rattle.gate_arith.specs.Operations.{bits, shown, high, doubled_with, IsTruth, IsNumber, IsSelected}
-use Rattle.gate_arith.proofs.Ripple.{all_more, shown_keep}
+use Rattle.gate_arith.proofs.Ripple.{shown_keep}
 use Rattle.gate_arith.proofs.Products.{signed-cons, within_shorter, double_times}
 use Rattle.gate_arith.proofs.Steps.{both_by, shown_zeros, choose_by}
 use Rattle.gate_arith.proofs.Differences.{number_same}

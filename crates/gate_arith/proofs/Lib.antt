@@ -9,3 +9,4 @@ pub mod Counts
 pub mod Products
 pub mod Steps
 pub mod Factors
+pub mod Joins

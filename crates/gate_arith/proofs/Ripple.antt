@@ -1,10 +1,11 @@
 -- The carry ripples through a sum: what the places so far show.
-use Rattle.std.proofs.Common.{◌≡◌, ℕ, ◌+◌, ◌*◌, ◌^◌, ◌<◌, Bool, List, [], ◌∷◌, ◌++◌, length, map, take, get_or, refl, sym, ap, ◌∙◌, arith, length-append, append_assoc, add-one, All}
-use Rattle.std.proofs.lemmas.List.{take_more, map-append, length-map, length-take-le, append-nil}
+use Rattle.std.proofs.Common.{◌≡◌, ℕ, ◌+◌, ◌*◌, ◌^◌, ◌<◌, Bool, List, [], ◌∷◌, ◌++◌, length, map, take, get_or, refl, sym, ap, ◌∙◌, arith, length-append, add-one, All}
+use Rattle.std.proofs.lemmas.List.{take_more, map-append, length-map, length-take-le}
 use Rattle.std.proofs.lemmas.List.Elements.{All-append, All-cons, All-head, All-tail}
 use Rattle.std.proofs.Math.Nat.{pow-suc}
 use Rattle.gate_core.specs.declared.circuit.Node.{Node}
 use Rattle.gate_core.specs.Circuit.{value, IsOf, Keeps}
+use Rattle.gate_core.proofs.Values.{keeps_same, keeps_twice, all_more}
 use Rattle.gate_arith.specs.Numbers.{bit, number, signed}
 use Rattle.gate_arith.specs.Operations.{bits, shown, AddsBits}
 use Rattle.gate_arith.specs.Ripple.{IsPartial}
@@ -14,21 +15,7 @@ pub number-push : (xs : List Bool) (b : Bool) → number (xs ++ b ∷ []) ≡ nu
 number-push [] b = omega arith
 number-push (x ∷ xs) b = omega (arith, number-push xs b, ap (λ p. p * bit b) (pow-suc 2 (length xs)))
 
--- a gate stays one
-pub of_more : (old new : List Node) (gate : ℕ) → Keeps old new → IsOf old gate → IsOf new gate
-of_more old new gate keeps of = omega (arith, ap length keeps.behind, length-append old keeps.more)
-
--- a circuit that grows twice
-pub keeps_twice : (old middle new : List Node) → Keeps old middle → Keeps middle new → Keeps old new
-keeps_twice old middle new first second = record {
-  more = first.more ++ second.more;
-  behind = second.behind ∙ ap (λ ns. ns ++ second.more) first.behind ∙ append_assoc old first.more second.more;
-  values = λ inputs gate of. second.values inputs gate (of_more old middle gate first of) ∙ first.values inputs gate of;
-}
-
-pub all_more : (old new : List Node) (gates : List ℕ) → Keeps old new → All (IsOf old) gates → All (IsOf new) gates
-all_more old new gates keeps of = λ k d within. of_more old new (get_or gates k d) keeps (of k d within)
-
+-- gates that stand keep their values
 pub bits_keep : (inputs : ℕ → Bool) (old new : List Node) (gates : List ℕ) → Keeps old new → All (IsOf old) gates → bits inputs new gates ≡ bits inputs old gates
 bits_keep inputs old new [] keeps of = refl
 bits_keep inputs old new (g ∷ gates) keeps of =
@@ -49,7 +36,7 @@ number-take inputs nodes gates i x within is =
 -- nothing is added yet
 pub partial_none : (old : List Node) (a b : List ℕ) (first : ℕ) → IsOf old first → IsPartial old old a b first 0 [] first
 partial_none old a b first of = record {
-  keeps = record { more = []; behind = sym (append-nil old); values = λ inputs gate h. refl };
+  keeps = keeps_same old old refl;
   of = λ k d within. absurd (omega arith);
   wide = refl;
   carry_of = of;
@@ -77,9 +64,6 @@ partial_more old middle new a b first i x y carry s c sum part in_a in_b at_a at
       let next : 2 ^ (i + 1) * bit (value inputs new c) ≡ 2 ^ i * 2 * bit (value inputs new c) = ap (λ p. p * bit (value inputs new c)) (ap (λ n. 2 ^ n) (add-one i) ∙ pow-suc 2 i) in
       omega (arith, part.sum_is inputs, shown, place, next, number-take inputs old a i x in_a at_a, number-take inputs old b i y in_b at_b);
 }
-
--- the lemmas of a circuit that grows step by step
-pub ruleset growing = (keeps_twice, of_more, partial_none, partial_more)
 
 -- the number that gates show stays
 pub shown_keep : (inputs : ℕ → Bool) (old new : List Node) (gates : List ℕ) → Keeps old new → All (IsOf old) gates → shown new gates inputs ≡ shown old gates inputs

@@ -1,25 +1,21 @@
 -- One step of a product: what is there is doubled, and the factor is added where its bit is set.
-use Rattle.std.proofs.Common.{◌≡◌, ℕ, zero, suc, ◌+◌, ◌-◌, ◌*◌, ◌^◌, ◌<◌, Bool, true, false, not, ◌&&◌, List, [], ◌∷◌, ◌++◌, length, take, get_or, refl, sym, ap, subst, ◌∙◌, arith, add-one, ℤ, pos, ◌+ℤ◌, ◌-ℤ◌, All}
+use Rattle.std.proofs.Common.{◌≡◌, ℕ, zero, suc, ◌+◌, ◌-◌, ◌*◌, ◌^◌, ◌<◌, Bool, true, false, not, ◌&&◌, List, [], ◌∷◌, ◌++◌, length, take, get_or, refl, sym, ap, subst, ◌∙◌, arith, add-one, ℤ, pos, ◌+ℤ◌, ◌-ℤ◌}
 use Rattle.std.specs.Prelude.{if◌then◌else◌, replicate}
 use Rattle.std.proofs.lemmas.Int.{ints}
-use Rattle.std.proofs.lemmas.List.{map-append, length-map, length-take-le, length-take, get_or-map, get_or-take, take-take}
+use Rattle.std.proofs.lemmas.List.{map-append, length-map, length-take-le, get_or-map, get_or-take, take-take}
+use Rattle.std.proofs.lemmas.List.Elements.{All-take}
 use Rattle.std.proofs.lemmas.Bool.{false≢true}
 use Rattle.std.proofs.Math.Nat.{pow-suc}
 use Rattle.gate_core.specs.declared.circuit.Node.{Node}
 use Rattle.gate_core.specs.Circuit.{value, IsOf, Keeps}
+use Rattle.gate_core.proofs.Values.{keeps_twice, all_more}
 use Rattle.gate_arith.specs.Numbers.{bit, number, sign, signed, is_within, differ}
 use Rattle.gate_arith.specs.Operations.{bits, shown, IsTruth, IsNumber, IsSelected}
-use Rattle.gate_arith.proofs.Ripple.{keeps_twice, all_more, bits_keep, number-take}
+use Rattle.gate_arith.proofs.Ripple.{bits_keep, number-take}
 use Rattle.gate_arith.proofs.Signed.{number_below}
 use Rattle.gate_arith.proofs.Sums.{shown_split}
 use Rattle.gate_arith.proofs.Counts.{number_zeros}
 use Rattle.gate_arith.proofs.Products.{signed-cons, signed-extended, narrow_same, narrow_within, within_wider}
-
-All-take : {X : Type 0} (P : X → Type 0) (n : ℕ) (xs : List X) → All P xs → All P (take n xs)
-All-take P n xs all = λ k d within.
-    let short : k < n = omega (arith, length-take n xs) in
-    let inside : k < length xs = omega (arith, length-take n xs) in
-    subst P (sym (get_or-take n xs k d short)) (all k d inside)
 
 -- a list of false gates shows 0
 zero_by : (bs : List Bool) (s : Bool) → sign bs ≡ s → number bs ≡ 0 → (s ≡ true → 0 < number bs) → signed bs ≡ pos 0
@@ -113,6 +109,3 @@ narrowed middle third new exact wide top fits y z agrees within is at_y at_z agr
           ∙ ap (λ v. pos (low inputs + 2 ^ top * bit (value inputs middle y)) -ℤ pos (2 ^ top * 2 * bit v)) same
           ∙ sym (whole inputs) ∙ shows;
     }
-
-pub swapped : (y z : ℤ) → y +ℤ z ≡ z +ℤ y
-swapped y z = omega (arith, ints)

@@ -2,13 +2,14 @@
 use Rattle.std.proofs.Common.{◌≡◌, ℕ, suc, ◌+◌, ◌*◌, ◌^◌, ◌<◌, Bool, true, false, not, List, [], ◌∷◌, ◌++◌, length, take, get_or, refl, sym, ap, subst, ◌∙◌, arith, length-append, pos, ◌+ℤ◌, ◌-ℤ◌}
 use Rattle.std.proofs.lemmas.List.{take_more, take_all, map-append, length-map, length-take-le}
 use Rattle.std.proofs.lemmas.List.Elements.{All-append, All-cons}
-use Rattle.std.proofs.lemmas.Bool.{false≢true}
+use Rattle.std.proofs.lemmas.Bool.{false≢true, not-true}
 use Rattle.gate_core.specs.declared.circuit.Node.{Node}
 use Rattle.gate_core.specs.Circuit.{value, IsOf, Keeps}
+use Rattle.gate_core.proofs.Values.{of_more, all_more, keeps_twice}
 use Rattle.gate_arith.specs.Numbers.{bit, number, signed, is_within, differ}
 use Rattle.gate_arith.specs.Operations.{bits, shown, AddsBits, IsTruth, IsNumber}
 use Rattle.gate_arith.specs.Ripple.{IsPartial}
-use Rattle.gate_arith.proofs.Ripple.{of_more, all_more, bits_keep, keeps_twice}
+use Rattle.gate_arith.proofs.Ripple.{bits_keep}
 use Rattle.gate_arith.proofs.Signed.{signed_push, number_below, IsSplit, exact_sum, sum_same, sum_within}
 
 -- a list whose last element is known
@@ -24,11 +25,6 @@ shown_split inputs nodes gates top x long at =
     ap signed (ap (bits inputs nodes) (last_apart gates top x long at) ∙ map-append (value inputs nodes) (take top gates) (x ∷ []))
     ∙ signed_push (bits inputs nodes (take top gates)) (value inputs nodes x)
     ∙ ap (λ n. pos (number (bits inputs nodes (take top gates))) -ℤ pos (2 ^ n * bit (value inputs nodes x))) count
-
--- a negation that is true is of a truth value that is false
-not_true : (b : Bool) → not b ≡ true → b ≡ false
-not_true true h = absurd (false≢true h)
-not_true false h = refl
 
 same_bits : (a b : Bool) → differ a b ≡ false → a ≡ b
 same_bits true true h = refl
@@ -74,7 +70,7 @@ sum_number old middle third new a b top first x y into s out wraps within sum lo
       };
       number_is = λ inputs fits.
           let carries : value inputs third into ≡ value inputs third out =
-          same_bits (value inputs third into) (value inputs third out) (not_true (differ (value inputs third into) (value inputs third out)) (sym (is_within_is inputs) ∙ fits)) in
+          same_bits (value inputs third into) (value inputs third out) (not-true (differ (value inputs third into) (value inputs third out)) (sym (is_within_is inputs) ∙ fits)) in
           ap signed (map-append (value inputs new) sum (s ∷ []) ∙ ap (λ bs. bs ++ value inputs new s ∷ []) (bits_keep inputs middle new sum kept part.of)
           ∙ ap (λ v. bits inputs middle sum ++ v ∷ []) (last.values inputs s adds.sum_of))
           ∙ signed_push (bits inputs middle sum) (value inputs third s)

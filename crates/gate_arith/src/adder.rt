@@ -4,13 +4,13 @@ ghost use Rattle.gate_arith.specs.Numbers.{bit};
 ghost use Rattle.gate_arith.specs.Operations.{shown, IsNumber};
 ghost use Rattle.gate_arith.specs.Ripple.{IsPartial};
 
-use crate::logic::{exactly_one, full_add};
+use crate::logic::{exclusive_or, full_add};
 use gate_core::{Gate, Gates};
 use no_memory::NoMemory;
 use std::alloc::Global;
 
 /// The bits of the sum of two lists of bits and a carry, and the carry behind them.
-#[tactic(auto, using(crate::proofs::Ripple::growing))]
+#[tactic(auto, using(gate_core::proofs::Values::growing, crate::proofs::Ripple::partial_none))]
 pub(crate) fn ripple(
     alloc: Global,
     gates: &mut Gates,
@@ -36,7 +36,7 @@ pub(crate) fn ripple(
 }
 
 /// The sum of two numbers of one width and a carry.
-#[tactic(auto, using(crate::proofs::Ripple::growing))]
+#[tactic(auto, using(gate_core::proofs::Values::growing))]
 fn add(
     alloc: Global,
     gates: &mut Gates,
@@ -58,7 +58,7 @@ fn add(
     let (mut sum, into) = ripple(alloc, gates, low_a, low_b, carry)?;
     let (sign, out) = full_add(gates, a[top], b[top], into)?;
     sum.push(sign)?;
-    let wraps = exactly_one(gates, into, out)?;
+    let wraps = exclusive_or(gates, into, out)?;
     Ok((sum, wraps.not()))
 }
 

@@ -8,7 +8,7 @@ use gate_core::{Gate, Gates};
 use no_memory::NoMemory;
 use std::alloc::Global;
 
-#[tactic(auto, using(crate::proofs::Ripple::growing, crate::proofs::Choices::chosen_none))]
+#[tactic(auto, using(gate_core::proofs::Values::growing, crate::proofs::Choices::chosen_none))]
 fn choose(
     alloc: Global,
     gates: &mut Gates,

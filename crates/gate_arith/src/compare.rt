@@ -5,32 +5,28 @@ ghost use Rattle.gate_arith.specs.Numbers.{differ};
 ghost use Rattle.gate_arith.specs.Operations.{shown, IsTruth};
 ghost use Rattle.gate_arith.specs.Comparison.{IsTested};
 
-use crate::logic::{both, choice, exactly_one};
+use crate::logic::{both, either, exclusive_or};
 use gate_core::{Gate, Gates};
 use no_memory::NoMemory;
 
-/// One gate where two bits differ, and else another.
-#[tactic(auto, using(crate::proofs::Ripple::growing))]
-fn where_apart(
-    gates: &mut Gates,
-    x: Gate,
-    y: Gate,
-    chosen: Gate,
-    other: Gate,
-) -> Result<Gate, NoMemory>
+/// The borrow of a place where a difference needs one: the second bit where the two differ, and else the
+/// borrow of the place before. It costs four nodes.
+#[tactic(auto, using(gate_core::proofs::Values::growing))]
+fn borrow(gates: &mut Gates, x: Gate, y: Gate, before: Gate) -> Result<Gate, NoMemory>
     requires left { IsOf gates.old x }
     requires right { IsOf gates.old y }
-    requires chosen { IsOf gates.old chosen }
-    requires other { IsOf gates.old other }
-    ensures truth { IfOk result (IsTruth gates.new (λ inputs. if differ (value inputs gates.old x) (value inputs gates.old y) then value inputs gates.old chosen else value inputs gates.old other)) }
+    requires before { IsOf gates.old before }
+    ensures truth { IfOk result (IsTruth gates.new (λ inputs. if differ (value inputs gates.old x) (value inputs gates.old y) then value inputs gates.old y else value inputs gates.old before)) }
     ensures keeps { Keeps gates.old gates.new }
 {
-    let apart = exactly_one(gates, x, y)?;
-    choice(gates, apart, chosen, other)
+    let below = both(gates, x.not(), y)?;
+    let up_to = either(gates, x.not(), y)?;
+    let passed = both(gates, before, up_to)?;
+    either(gates, below, passed)
 }
 
 /// Whether two bits agree and a gate is true besides.
-#[tactic(auto, using(crate::proofs::Ripple::growing))]
+#[tactic(auto, using(gate_core::proofs::Values::growing))]
 fn and_agree(gates: &mut Gates, x: Gate, y: Gate, before: Gate) -> Result<Gate, NoMemory>
     requires left { IsOf gates.old x }
     requires right { IsOf gates.old y }
@@ -38,12 +34,12 @@ fn and_agree(gates: &mut Gates, x: Gate, y: Gate, before: Gate) -> Result<Gate, 
     ensures truth { IfOk result (IsTruth gates.new (λ inputs. value inputs gates.old before && not (differ (value inputs gates.old x) (value inputs gates.old y)))) }
     ensures keeps { Keeps gates.old gates.new }
 {
-    let apart = exactly_one(gates, x, y)?;
+    let apart = exclusive_or(gates, x, y)?;
     both(gates, before, apart.not())
 }
 
 /// Whether the first `count` places of one list show a lower number than those of another.
-#[tactic(auto, using(crate::proofs::Ripple::growing))]
+#[tactic(auto, using(gate_core::proofs::Values::growing))]
 fn below_low(gates: &mut Gates, a: &[Gate], b: &[Gate], count: usize) -> Result<Gate, NoMemory>
     requires left { All (IsOf gates.old) a.now }
     requires right { All (IsOf gates.old) b.now }
@@ -56,13 +52,13 @@ fn below_low(gates: &mut Gates, a: &[Gate], b: &[Gate], count: usize) -> Result<
     for place in 0..count {
         let x = a[place];
         let y = b[place];
-        below = where_apart(gates, x, y, y, below)?;
+        below = borrow(gates, x, y, below)?;
     }
     Ok(below)
 }
 
 /// Whether the first `count` places of two lists show one number.
-#[tactic(auto, using(crate::proofs::Ripple::growing))]
+#[tactic(auto, using(gate_core::proofs::Values::growing))]
 fn same_low(gates: &mut Gates, a: &[Gate], b: &[Gate], count: usize) -> Result<Gate, NoMemory>
     requires left { All (IsOf gates.old) a.now }
     requires right { All (IsOf gates.old) b.now }
@@ -81,8 +77,8 @@ fn same_low(gates: &mut Gates, a: &[Gate], b: &[Gate], count: usize) -> Result<G
 }
 
 /// Whether the first number is below the second, both in two's complement of one width, lowest bit
-/// first. It costs six nodes for each bit.
-#[tactic(auto, using(crate::proofs::Ripple::growing))]
+/// first. It costs four nodes for each bit.
+#[tactic(auto, using(gate_core::proofs::Values::growing))]
 pub fn below(gates: &mut Gates, a: &[Gate], b: &[Gate]) -> Result<Gate, NoMemory>
     requires left { All (IsOf gates.old) a.now }
     requires right { All (IsOf gates.old) b.now }
@@ -95,13 +91,14 @@ pub fn below(gates: &mut Gates, a: &[Gate], b: &[Gate]) -> Result<Gate, NoMemory
     let low = below_low(gates, a, b, top)?;
     let x = a[top];
     let y = b[top];
-    let gate = where_apart(gates, x, y, x, low)?;
+    // the sign counts down
+    let gate = borrow(gates, y, x, low)?;
     Ok(gate)
 }
 
 /// Whether two numbers in two's complement of one width are the same, lowest bit first. It costs four
 /// nodes for each bit.
-#[tactic(auto, using(crate::proofs::Ripple::growing))]
+#[tactic(auto, using(gate_core::proofs::Values::growing))]
 pub fn same(gates: &mut Gates, a: &[Gate], b: &[Gate]) -> Result<Gate, NoMemory>
     requires left { All (IsOf gates.old) a.now }
     requires right { All (IsOf gates.old) b.now }

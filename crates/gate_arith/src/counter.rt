@@ -13,7 +13,7 @@ use std::alloc::Global;
 /// How many of the bits are true, as a number in two's complement of a width, lowest bit first, and a
 /// gate that says whether it lies within the width. For n bits it costs at most three nodes for each
 /// bit and place that the count can have reached, so about 3 n log n.
-#[tactic(auto, using(crate::proofs::Ripple::growing, crate::proofs::Counts::counted_none, crate::proofs::Counts::zeros_of))]
+#[tactic(auto, using(gate_core::proofs::Values::growing, crate::proofs::Counts::counted_none, crate::proofs::Counts::zeros_of))]
 pub fn count(
     alloc: Global,
     gates: &mut Gates,

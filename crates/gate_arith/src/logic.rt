@@ -1,4 +1,4 @@
-ghost use Rattle.std.specs.Prelude.{◌≡◌, ℕ, ◌+◌, ◌*◌, Bool, ◌&&◌, ◌||◌, not, if◌then◌else◌, IfOk};
+ghost use Rattle.std.specs.Prelude.{◌≡◌, ℕ, ◌+◌, ◌*◌, ◌≤◌, Bool, ◌&&◌, ◌||◌, not, if◌then◌else◌, length, IfOk};
 ghost use Rattle.gate_core.specs.Circuit.{value, IsOf, Keeps};
 ghost use Rattle.gate_arith.specs.Numbers.{bit, differ};
 ghost use Rattle.gate_arith.specs.Operations.{IsTruth, AddsBits};
@@ -6,47 +6,54 @@ ghost use Rattle.gate_arith.specs.Operations.{IsTruth, AddsBits};
 use gate_core::{Gate, Gates};
 use no_memory::NoMemory;
 
-/// The conjunction.
-pub(crate) fn both(gates: &mut Gates, a: Gate, b: Gate) -> Result<Gate, NoMemory>
+/// The conjunction of two gates. It costs one node.
+#[tactic(auto, using(gate_core::proofs::Conjunctions::joins_few))]
+pub fn both(gates: &mut Gates, a: Gate, b: Gate) -> Result<Gate, NoMemory>
     requires left { IsOf gates.old a }
     requires right { IsOf gates.old b }
     ensures truth { IfOk result (IsTruth gates.new (λ inputs. value inputs gates.old a && value inputs gates.old b)) }
     ensures keeps { Keeps gates.old gates.new }
+    ensures nodes { length gates.new ≤ length gates.old + 1 }
 {
     let gate = gates.and(a, b)?;
     Ok(gate)
 }
 
-/// The disjunction.
-pub(crate) fn either(gates: &mut Gates, a: Gate, b: Gate) -> Result<Gate, NoMemory>
+/// The disjunction of two gates. It costs one node.
+#[tactic(auto, using(gate_core::proofs::Conjunctions::joins_few))]
+pub fn either(gates: &mut Gates, a: Gate, b: Gate) -> Result<Gate, NoMemory>
     requires left { IsOf gates.old a }
     requires right { IsOf gates.old b }
     ensures truth { IfOk result (IsTruth gates.new (λ inputs. value inputs gates.old a || value inputs gates.old b)) }
     ensures keeps { Keeps gates.old gates.new }
+    ensures nodes { length gates.new ≤ length gates.old + 1 }
 {
     let neither = gates.and(a.not(), b.not())?;
     Ok(neither.not())
 }
 
-/// Whether exactly one of two gates is true. It costs three nodes.
-pub(crate) fn exactly_one(gates: &mut Gates, a: Gate, b: Gate) -> Result<Gate, NoMemory>
+/// The exclusive or of two gates: whether exactly one is true. It costs three nodes.
+pub fn exclusive_or(gates: &mut Gates, a: Gate, b: Gate) -> Result<Gate, NoMemory>
     requires left { IsOf gates.old a }
     requires right { IsOf gates.old b }
     ensures truth { IfOk result (IsTruth gates.new (λ inputs. differ (value inputs gates.old a) (value inputs gates.old b))) }
     ensures keeps { Keeps gates.old gates.new }
+    ensures nodes { length gates.new ≤ length gates.old + 3 }
 {
     let all = both(gates, a, b)?;
     let some = either(gates, a, b)?;
     both(gates, some, all.not())
 }
 
-/// The choice of two gates: the first where the condition is true. It costs three nodes.
-pub(crate) fn choice(gates: &mut Gates, condition: Gate, a: Gate, b: Gate) -> Result<Gate, NoMemory>
+/// The choice of two gates: the first where the condition is true, and else the second. It costs three
+/// nodes.
+pub fn choice(gates: &mut Gates, condition: Gate, a: Gate, b: Gate) -> Result<Gate, NoMemory>
     requires condition { IsOf gates.old condition }
     requires left { IsOf gates.old a }
     requires right { IsOf gates.old b }
     ensures truth { IfOk result (IsTruth gates.new (λ inputs. if value inputs gates.old condition then value inputs gates.old a else value inputs gates.old b)) }
     ensures keeps { Keeps gates.old gates.new }
+    ensures nodes { length gates.new ≤ length gates.old + 3 }
 {
     let first = both(gates, condition, a)?;
     let second = both(gates, condition.not(), b)?;
@@ -61,7 +68,7 @@ pub(crate) fn half_add(gates: &mut Gates, a: Gate, b: Gate) -> Result<(Gate, Gat
     ensures sum { IfOk result (λ r. AddsBits gates.new (λ inputs. bit (value inputs gates.old a) + bit (value inputs gates.old b)) r.0 r.1) }
     ensures keeps { Keeps gates.old gates.new }
 {
-    let sum = exactly_one(gates, a, b)?;
+    let sum = exclusive_or(gates, a, b)?;
     let carry = both(gates, a, b)?;
     Ok((sum, carry))
 }

@@ -5,20 +5,20 @@ ghost use Rattle.gate_arith.specs.Operations.{shown, high, doubled_with, IsTruth
 
 use crate::adder::{difference, sum};
 use crate::choose::{repeated, select};
-use crate::logic::{both, exactly_one};
+use crate::logic::{both, exclusive_or};
 use gate_core::{Gate, Gates};
 use no_memory::NoMemory;
 use std::alloc::Global;
 
 /// Whether two gates agree.
-#[tactic(auto, using(crate::proofs::Ripple::growing))]
+#[tactic(auto, using(gate_core::proofs::Values::growing))]
 fn agree(gates: &mut Gates, x: Gate, y: Gate) -> Result<Gate, NoMemory>
     requires left { IsOf gates.old x }
     requires right { IsOf gates.old y }
     ensures truth { IfOk result (IsTruth gates.new (λ inputs. not (differ (value inputs gates.old x) (value inputs gates.old y)))) }
     ensures keeps { Keeps gates.old gates.new }
 {
-    let apart = exactly_one(gates, x, y)?;
+    let apart = exclusive_or(gates, x, y)?;
     Ok(apart.not())
 }
 
@@ -33,7 +33,7 @@ fn in_front(alloc: Global, first: Gate, gates: &[Gate]) -> Result<Vec<Gate>, NoM
 }
 
 /// A number doubled, and the factor added where its bit is set, at one bit more.
-#[tactic(auto, using(crate::proofs::Ripple::growing, crate::proofs::Counts::zeros_of))]
+#[tactic(auto, using(gate_core::proofs::Values::growing, crate::proofs::Counts::zeros_of))]
 fn double_and_add(
     alloc: Global,
     gates: &mut Gates,
@@ -60,7 +60,7 @@ fn double_and_add(
 }
 
 /// The bits but the last of a number, with a gate that says whether it lies within one bit less.
-#[tactic(auto, using(crate::proofs::Ripple::growing))]
+#[tactic(auto, using(gate_core::proofs::Values::growing))]
 fn narrow(gates: &mut Gates, mut wide: Vec<Gate>, fits: Gate) -> Result<(Vec<Gate>, Gate), NoMemory>
     requires bits { All (IsOf gates.old) wide.items }
     requires fits { IsOf gates.old fits }
@@ -79,7 +79,7 @@ fn narrow(gates: &mut Gates, mut wide: Vec<Gate>, fits: Gate) -> Result<(Vec<Gat
 
 /// One step of a product: the number is doubled, and the factor added where its bit is set. It costs
 /// eight nodes for each bit.
-#[tactic(auto, using(crate::proofs::Ripple::growing))]
+#[tactic(auto, using(gate_core::proofs::Values::growing))]
 fn step(
     alloc: Global,
     gates: &mut Gates,
@@ -101,7 +101,7 @@ fn step(
 }
 
 /// The product with the sign of the second factor alone: the first factor, negated, where it is set.
-#[tactic(auto, using(crate::proofs::Ripple::growing, crate::proofs::Counts::zeros_of))]
+#[tactic(auto, using(gate_core::proofs::Values::growing, crate::proofs::Counts::zeros_of))]
 fn with_sign(
     alloc: Global,
     gates: &mut Gates,
@@ -127,7 +127,7 @@ fn with_sign(
 /// whether it lies within the width. The second factor is gone through from its sign down: a product
 /// with its higher bits leaves the width only where the whole one does, so no more than one bit besides
 /// the width is kept. For w bits it costs about 8 w w nodes.
-#[tactic(auto, using(crate::proofs::Ripple::growing))]
+#[tactic(auto, using(gate_core::proofs::Values::growing))]
 pub fn product(
     alloc: Global,
     gates: &mut Gates,

@@ -1,155 +1,16 @@
 ghost use Rattle.std.specs.Prelude.{◌≡◌, ◌<◌, All, length, vec_len, IfOk, pos, ◌≤ℤ◌, negsuc};
 ghost use Rattle.gate_core.specs.Circuit.{IsOf, Keeps};
 
-use crate::{below, count, difference, product, same, select, sum};
-use gate_core::{Gate, Gates};
+use crate::{
+    all_of, any_of, below, choice, count, difference, exclusive_or, product, same, select, sum,
+};
+use gate_core::{Gate, Gates, Node};
 use no_memory::NoMemory;
 use std::alloc::Global;
 use std::test::Fail;
 
-// Over constant gates each operation comes down to constants, so that its number can be read off.
-
-/// The four bits of a number below 16.
-fn bits_of(gates: &Gates, number: u32) -> [Gate; 4]
-    ensures of { All (IsOf gates.now) result }
-    ensures wide { length result ≡ 4 }
-{
-    [
-        gates.constant(number & 1 != 0),
-        gates.constant(number & 2 != 0),
-        gates.constant(number & 4 != 0),
-        gates.constant(number & 8 != 0),
-    ]
-}
-
-/// The number in two's complement that four bits stand for.
-fn signed(number: u32) -> i32
-    requires { number < 16 }
-    ensures low { negsuc 7 ≤ℤ result }
-    ensures high { result ≤ℤ pos 7 }
-{
-    if number < 8 {
-        number as i32
-    } else {
-        number as i32 - 16
-    }
-}
-
-fn bit(gates: &[Gate], place: usize) -> i32
-    ensures low { pos 0 ≤ℤ result }
-    ensures high { result ≤ℤ pos 1 }
-{
-    match gates.get(place) {
-        Some(gate) if gate.number() == 1 => 1,
-        _ => 0,
-    }
-}
-
-fn shown(gates: &[Gate]) -> i32 {
-    bit(gates, 0) + 2 * bit(gates, 1) + 4 * bit(gates, 2) - 8 * bit(gates, 3)
-}
-
-fn is_true(gate: Gate) -> bool {
-    gate.number() == 1
-}
-
-fn fits(number: i32) -> bool {
-    -8 <= number && number < 8
-}
-
-#[test]
-fn sums_of_four_bits(rt: HostRuntime) -> Result<(), Fail> {
-    let mut gates = Gates::new(rt.alloc())?;
-    for x in 0..16 {
-        for y in 0..16 {
-            let a = bits_of(&gates, x);
-            let b = bits_of(&gates, y);
-            let exact = signed(x) + signed(y);
-            let (number, within) = sum(rt.alloc(), &mut gates, &a, &b)?;
-            assert_eq!(rt; is_true(within), fits(exact));
-            if fits(exact) {
-                assert_eq!(rt; shown(&number), exact);
-            }
-        }
-    }
-    Ok(())
-}
-
-#[test]
-fn differences_of_four_bits(rt: HostRuntime) -> Result<(), Fail> {
-    let mut gates = Gates::new(rt.alloc())?;
-    for x in 0..16 {
-        for y in 0..16 {
-            let a = bits_of(&gates, x);
-            let b = bits_of(&gates, y);
-            let exact = signed(x) - signed(y);
-            let (number, within) = difference(rt.alloc(), &mut gates, &a, &b)?;
-            assert_eq!(rt; is_true(within), fits(exact));
-            if fits(exact) {
-                assert_eq!(rt; shown(&number), exact);
-            }
-        }
-    }
-    Ok(())
-}
-
-#[test]
-fn products_of_four_bits(rt: HostRuntime) -> Result<(), Fail> {
-    let mut gates = Gates::new(rt.alloc())?;
-    for x in 0..16 {
-        for y in 0..16 {
-            let a = bits_of(&gates, x);
-            let b = bits_of(&gates, y);
-            let exact = i64::from(signed(x)) * i64::from(signed(y));
-            let (number, within) = product(rt.alloc(), &mut gates, &a, &b)?;
-            assert_eq!(rt; is_true(within), -8 <= exact && exact < 8);
-            if -8 <= exact && exact < 8 {
-                assert_eq!(rt; i64::from(shown(&number)), exact);
-            }
-        }
-    }
-    Ok(())
-}
-
-#[test]
-fn comparisons_and_choices_of_four_bits(rt: HostRuntime) -> Result<(), Fail> {
-    let mut gates = Gates::new(rt.alloc())?;
-    for x in 0..16 {
-        for y in 0..16 {
-            let a = bits_of(&gates, x);
-            let b = bits_of(&gates, y);
-            let less = below(&mut gates, &a, &b)?;
-            assert_eq!(rt; is_true(less), signed(x) < signed(y));
-            let a = bits_of(&gates, x);
-            let b = bits_of(&gates, y);
-            let alike = same(&mut gates, &a, &b)?;
-            assert_eq!(rt; is_true(alike), x == y);
-            let a = bits_of(&gates, x);
-            let b = bits_of(&gates, y);
-            let condition = gates.constant(x < 8);
-            let chosen = select(rt.alloc(), &mut gates, condition, &a, &b)?;
-            assert_eq!(rt; shown(&chosen), if x < 8 { signed(x) } else { signed(y) });
-        }
-    }
-    Ok(())
-}
-
-// At width 4 a count of 7 is the greatest.
-#[test]
-fn counts_at_the_edge_of_the_width(rt: HostRuntime) -> Result<(), Fail> {
-    let mut gates = Gates::new(rt.alloc())?;
-    let yes = gates.constant(true);
-    let (number, within) = count(rt.alloc(), &mut gates, &[yes; 7], 4)?;
-    assert!(rt; is_true(within));
-    assert_eq!(rt; shown(&number), 7);
-    let yes = gates.constant(true);
-    let (_, within) = count(rt.alloc(), &mut gates, &[yes; 8], 4)?;
-    assert!(rt; !is_true(within));
-    Ok(())
-}
-
 /// As many new inputs.
-#[tactic(auto, using(crate::proofs::Ripple::growing))]
+#[tactic(auto, using(gate_core::proofs::Values::growing))]
 fn inputs(alloc: Global, gates: &mut Gates, width: usize) -> Result<Vec<Gate>, NoMemory>
     ensures of { IfOk result (λ r. All (IsOf gates.new) r.items) }
     ensures wide { IfOk result (λ r. vec_len r ≡ width) }
@@ -163,24 +24,189 @@ fn inputs(alloc: Global, gates: &mut Gates, width: usize) -> Result<Vec<Gate>, N
     Ok(bits)
 }
 
-// A sum has seven nodes for each bit and three more. A product has 1 node for each bit that is masked, a
-// sum at one bit more and five nodes to cut it, for each bit but the sign, and for that a difference.
+fn is_true(values: &[bool], gate: Gate) -> bool {
+    let node = values.get((gate.number() / 2) as usize) == Some(&true);
+    node != (gate.number() % 2 == 1)
+}
+
+/// The values of the nodes in order, where those of the inputs are the bits of a number, lowest first.
+fn values(alloc: Global, gates: &Gates, inputs: u32) -> Result<Vec<bool>, NoMemory> {
+    let mut values = Vec::new(alloc);
+    let mut bits = inputs;
+    for place in 0..gates.nodes() {
+        let value = match gates.node(place) {
+            Node::Zero => false,
+            Node::Input => {
+                let bit = bits % 2 == 1;
+                bits /= 2;
+                bit
+            }
+            Node::And(a, b) => is_true(&values, a) && is_true(&values, b),
+        };
+        values.push(value)?;
+    }
+    Ok(values)
+}
+
+fn bit(values: &[bool], number: &[Gate], place: usize) -> i64
+    ensures low { pos 0 ≤ℤ result }
+    ensures high { result ≤ℤ pos 1 }
+{
+    match number.get(place) {
+        Some(gate) if is_true(values, *gate) => 1,
+        _ => 0,
+    }
+}
+
+/// The number in two's complement that four gates show.
+fn shown(values: &[bool], number: &[Gate]) -> i64 {
+    bit(values, number, 0) + 2 * bit(values, number, 1) + 4 * bit(values, number, 2)
+        - 8 * bit(values, number, 3)
+}
+
+/// The number in two's complement that four bits stand for.
+fn signed(bits: u32) -> i32
+    requires { bits < 16 }
+    ensures low { negsuc 7 ≤ℤ result }
+    ensures high { result ≤ℤ pos 7 }
+{
+    if bits < 8 {
+        bits as i32
+    } else {
+        bits as i32 - 16
+    }
+}
+
+// The first four inputs are the bits of x, and the other four those of y.
 #[test]
-fn sums_of_sixteen_bits_are_small(rt: HostRuntime) -> Result<(), Fail> {
+#[tactic(auto, using(gate_core::proofs::Values::growing))]
+fn numbers_of_four_bits(rt: HostRuntime) -> Result<(), Fail> {
     let mut gates = Gates::new(rt.alloc())?;
-    let all = inputs(rt.alloc(), &mut gates, 32)?;
-    let (a, b) = all.as_slice().split_at(16);
-    let (_, _) = sum(rt.alloc(), &mut gates, a, b)?;
-    assert!(rt; gates.nodes() <= 33 + 115);
+    let all = inputs(rt.alloc(), &mut gates, 8)?;
+    let (a, b) = all.as_slice().split_at(4);
+    let (total, total_fits) = sum(rt.alloc(), &mut gates, a, b)?;
+    let (rest, rest_fits) = difference(rt.alloc(), &mut gates, a, b)?;
+    let (times, times_fit) = product(rt.alloc(), &mut gates, a, b)?;
+    for number in 0..256 {
+        let (x, y) = (signed(number % 16), signed(number / 16));
+        let values = values(rt.alloc(), &gates, number)?;
+        for (bits, fits, exact) in [
+            (&total, total_fits, i64::from(x + y)),
+            (&rest, rest_fits, i64::from(x - y)),
+            (&times, times_fit, i64::from(x) * i64::from(y)),
+        ] {
+            assert_eq!(rt; is_true(&values, fits), -8 <= exact && exact < 8);
+            if is_true(&values, fits) {
+                assert_eq!(rt; shown(&values, bits), exact);
+            }
+        }
+    }
+    Ok(())
+}
+
+// Four bits show no count from 8 on.
+#[test]
+fn counts_of_eight_bits(rt: HostRuntime) -> Result<(), Fail> {
+    let mut gates = Gates::new(rt.alloc())?;
+    let all = inputs(rt.alloc(), &mut gates, 8)?;
+    let (number, fits) = count(rt.alloc(), &mut gates, &all, 4)?;
+    for bits in 0..256u32 {
+        let ones = i64::from(bits.count_ones());
+        let values = values(rt.alloc(), &gates, bits)?;
+        assert_eq!(rt; is_true(&values, fits), ones < 8);
+        if ones < 8 {
+            assert_eq!(rt; shown(&values, &number), ones);
+        }
+    }
     Ok(())
 }
 
 #[test]
-fn products_of_sixteen_bits_are_small(rt: HostRuntime) -> Result<(), Fail> {
+#[tactic(auto, using(gate_core::proofs::Values::growing))]
+fn comparisons_of_four_bits(rt: HostRuntime) -> Result<(), Fail> {
+    let mut gates = Gates::new(rt.alloc())?;
+    let all = inputs(rt.alloc(), &mut gates, 8)?;
+    let (a, b) = all.as_slice().split_at(4);
+    let less = below(&mut gates, a, b)?;
+    let alike = same(&mut gates, a, b)?;
+    let lower = select(rt.alloc(), &mut gates, less, a, b)?;
+    for number in 0..256 {
+        let (x, y) = (signed(number % 16), signed(number / 16));
+        let values = values(rt.alloc(), &gates, number)?;
+        assert_eq!(rt; is_true(&values, less), x < y);
+        assert_eq!(rt; is_true(&values, alike), x == y);
+        assert_eq!(rt; shown(&values, &lower), i64::from(x.min(y)));
+    }
+    Ok(())
+}
+
+#[test]
+fn logic_of_five_inputs(rt: HostRuntime) -> Result<(), Fail> {
+    let mut gates = Gates::new(rt.alloc())?;
+    let all = inputs(rt.alloc(), &mut gates, 5)?;
+    let (a, b, c) = (all[0], all[1], all[2]);
+    let every = all_of(&mut gates, &all)?;
+    let some = any_of(&mut gates, &all)?;
+    let one = exclusive_or(&mut gates, a, b)?;
+    let first = choice(&mut gates, a, b, c)?;
+    for number in 0..32 {
+        let values = values(rt.alloc(), &gates, number)?;
+        for (gate, truth) in [
+            (every, number == 31),
+            (some, number != 0),
+            (one, number % 4 == 1 || number % 4 == 2),
+            (first, number % 4 == 3 || number % 8 == 4 || number % 8 == 6),
+        ] {
+            assert_eq!(rt; is_true(&values, gate), truth);
+        }
+    }
+    Ok(())
+}
+
+/// How many conjunctions a gate is above the inputs, where this is known of the nodes before it.
+fn depth(depths: &[u32], gate: Gate) -> u32 {
+    depths
+        .get((gate.number() / 2) as usize)
+        .copied()
+        .unwrap_or(0)
+}
+
+#[test]
+fn a_tree_over_sixteen_inputs_is_four_high(rt: HostRuntime) -> Result<(), Fail> {
+    let mut gates = Gates::new(rt.alloc())?;
+    let all = inputs(rt.alloc(), &mut gates, 16)?;
+    let every = all_of(&mut gates, &all)?;
+    let mut depths = Vec::new(rt.alloc());
+    for place in 0..gates.nodes() {
+        let here = match gates.node(place) {
+            Node::And(a, b) => depth(&depths, a).max(depth(&depths, b)).saturating_add(1),
+            _ => 0,
+        };
+        depths.push(here)?;
+    }
+    assert_eq!(rt; depth(&depths, every), 4);
+    Ok(())
+}
+
+// Over inputs of w bits below has 4 w - 2 nodes, a sum 7 w - 1 and a product 8 w w - 4.
+#[test]
+fn nodes_of_sixteen_bits(rt: HostRuntime) -> Result<(), Fail> {
+    let mut gates = Gates::new(rt.alloc())?;
+    let all = inputs(rt.alloc(), &mut gates, 32)?;
+    let (a, b) = all.as_slice().split_at(16);
+    let _less = below(&mut gates, a, b)?;
+    assert_eq!(rt; gates.nodes(), 33 + 62);
+    let (_, _) = sum(rt.alloc(), &mut gates, a, b)?;
+    assert_eq!(rt; gates.nodes(), 33 + 62 + 111);
+    Ok(())
+}
+
+#[test]
+fn nodes_of_a_product_of_sixteen_bits(rt: HostRuntime) -> Result<(), Fail> {
     let mut gates = Gates::new(rt.alloc())?;
     let all = inputs(rt.alloc(), &mut gates, 32)?;
     let (a, b) = all.as_slice().split_at(16);
     let (_, _) = product(rt.alloc(), &mut gates, a, b)?;
-    assert!(rt; gates.nodes() <= 33 + 131 + 15 * 143);
+    assert_eq!(rt; gates.nodes(), 33 + 2044);
     Ok(())
 }

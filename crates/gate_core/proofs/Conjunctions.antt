@@ -1,11 +1,12 @@
 -- The gate of a conjunction has its value, and is one.
-use Rattle.std.proofs.Common.{◌≡◌, ◌≢◌, ◌<◌, ℕ, ◌+◌, ◌*◌, ◌/◌, ◌%◌, ◌&&◌, ◌||◌, Bool, true, false, not, List, [], ◌∷◌, ◌++◌, length, get_or, Option, Some, None, ◌⊎◌, refl, sym, subst, ap, ◌∙◌, arith, inl, inr, length-append, min, max}
+use Rattle.std.proofs.Common.{◌≡◌, ◌≢◌, ◌<◌, ◌≤◌, ℕ, ◌+◌, ◌*◌, ◌/◌, ◌%◌, ◌&&◌, ◌||◌, Bool, true, false, not, List, [], ◌∷◌, ◌++◌, length, get_or, Option, Some, None, ◌⊎◌, refl, sym, subst, ap, ◌∙◌, arith, inl, inr, length-append, min, max}
 use Rattle.std.specs.Prelude.{◌==◌, if◌then◌else◌, MatchOption}
-use Rattle.std.proofs.lemmas.Bool.{cases_eq, cases_lt, eqb-true, eq-eqb, false≢true}
+use Rattle.std.proofs.Math.Bool.{and_comm, and_self, and-true, and-false, not-and_self, not-not}
+use Rattle.std.proofs.lemmas.Bool.{cases_eq, cases_lt, eqb-true, eqb-false, eq-eqb}
 use Rattle.std.proofs.lemmas.Option.{slice_get_within, same_Some, none-some}
 use Rattle.gate_core.specs.declared.circuit.Node.{Node}
 use Rattle.gate_core.specs.declared.circuit.Node.TheVariants.{Zero, And}
-use Rattle.gate_core.specs.Circuit.{gate_value, is_negated, negation, values_behind, value, conjunction, simplified, IsOf, Keeps, IsCircuit, StandsAt, PutsOnce, PairsHaveOneGate, IsJoined}
+use Rattle.gate_core.specs.Circuit.{gate_value, is_negated, negation, values_behind, value, conjunction, simplified, IsOf, Keeps, IsCircuit, StandsAt, PutsOnce, Joins, PairsHaveOneGate, IsJoined}
 use Rattle.gate_core.proofs.Places.{split_at_place, slice_get-append}
 use Rattle.gate_core.proofs.Values.{keeps_by, keeps_same, value_pushed, value_standing, edge}
 
@@ -23,26 +24,6 @@ odd_edge values place =
     ap (λ r. if r == 1 then not (get_or values ((2 * place + 1) / 2) false) else get_or values ((2 * place + 1) / 2) false) odd
     ∙ ap (λ i. not (get_or values i false)) half
 
-and_false : (b : Bool) → b && false ≡ false
-and_false true = refl
-and_false false = refl
-
-and_true : (b : Bool) → b && true ≡ b
-and_true true = refl
-and_true false = refl
-
-and_same : (b : Bool) → b && b ≡ b
-and_same true = refl
-and_same false = refl
-
-not_and : (b : Bool) → not b && b ≡ false
-not_and true = refl
-not_and false = refl
-
-not_not : (b : Bool) → not (not b) ≡ b
-not_not true = refl
-not_not false = refl
-
 -- the other edge has the other value
 pub gate_value-negation : (values : List Bool) (g : ℕ) → gate_value values (negation g) ≡ not (gate_value values g)
 gate_value-negation values g =
@@ -52,7 +33,7 @@ gate_value-negation values g =
           ap (λ h. gate_value values h) other ∙ odd_edge values (g / 2) ∙ ap (λ b. not (if b then not (get_or values (g / 2) false) else get_or values (g / 2) false)) (sym even.1))
       | inr odd ↦
           (let other : negation g ≡ 2 * (g / 2) = ap (λ b. if b then 2 * (g / 2) else 2 * (g / 2) + 1) odd.1 in
-          ap (λ h. gate_value values h) other ∙ edge values (g / 2) ∙ sym (not_not (get_or values (g / 2) false)) ∙ ap (λ b. not (if b then not (get_or values (g / 2) false) else get_or values (g / 2) false)) (sym odd.1))
+          ap (λ h. gate_value values h) other ∙ edge values (g / 2) ∙ sym (not-not (get_or values (g / 2) false)) ∙ ap (λ b. not (if b then not (get_or values (g / 2) false) else get_or values (g / 2) false)) (sym odd.1))
     ]
 
 pub value-negation : (inputs : ℕ → Bool) (nodes : List Node) (g : ℕ) → value inputs nodes (negation g) ≡ not (value inputs nodes g)
@@ -74,11 +55,11 @@ simplified_by : (v : ℕ → Bool) (a b g : ℕ) (p q r s t u : Bool) → v 0 �
     → (s ≡ true → v a ≡ true) → (t ≡ true → v a ≡ v b) → (u ≡ true → v b ≡ true)
     → (if p || q || r then Some 0 else (if s || t then Some b else (if u then Some a else None))) ≡ Some g → v g ≡ v a && v b
 simplified_by v a b g true q r s t u zero hp hq hr hs ht hu is = ap v (sym (same_Some 0 g is)) ∙ zero ∙ ap (λ x. x && v b) (sym (hp refl))
-simplified_by v a b g false true r s t u zero hp hq hr hs ht hu is = ap v (sym (same_Some 0 g is)) ∙ zero ∙ sym (and_false (v a)) ∙ ap (λ x. v a && x) (sym (hq refl))
-simplified_by v a b g false false true s t u zero hp hq hr hs ht hu is = ap v (sym (same_Some 0 g is)) ∙ zero ∙ sym (not_and (v b)) ∙ ap (λ x. x && v b) (sym (hr refl))
+simplified_by v a b g false true r s t u zero hp hq hr hs ht hu is = ap v (sym (same_Some 0 g is)) ∙ zero ∙ sym (and-false (v a)) ∙ ap (λ x. v a && x) (sym (hq refl))
+simplified_by v a b g false false true s t u zero hp hq hr hs ht hu is = ap v (sym (same_Some 0 g is)) ∙ zero ∙ sym (not-and_self (v b)) ∙ ap (λ x. x && v b) (sym (hr refl))
 simplified_by v a b g false false false true t u zero hp hq hr hs ht hu is = ap v (sym (same_Some b g is)) ∙ ap (λ x. x && v b) (sym (hs refl))
-simplified_by v a b g false false false false true u zero hp hq hr hs ht hu is = ap v (sym (same_Some b g is)) ∙ sym (and_same (v b)) ∙ ap (λ x. x && v b) (sym (ht refl))
-simplified_by v a b g false false false false false true zero hp hq hr hs ht hu is = ap v (sym (same_Some a g is)) ∙ sym (and_true (v a)) ∙ ap (λ x. v a && x) (sym (hu refl))
+simplified_by v a b g false false false false true u zero hp hq hr hs ht hu is = ap v (sym (same_Some b g is)) ∙ sym (and_self (v b)) ∙ ap (λ x. x && v b) (sym (ht refl))
+simplified_by v a b g false false false false false true zero hp hq hr hs ht hu is = ap v (sym (same_Some a g is)) ∙ sym (and-true (v a)) ∙ ap (λ x. v a && x) (sym (hu refl))
 simplified_by v a b g false false false false false false zero hp hq hr hs ht hu is = absurd (none-some g is)
 
 -- over any values that negate at the edges, the simplified gate is the conjunction
@@ -114,12 +95,6 @@ keeps_once old new node puts = elim puts [
 
 pub of_place : (nodes : List Node) (node : Node) (place : ℕ) → StandsAt nodes node place → IsOf nodes (2 * place)
 of_place nodes node place at = (let within = slice_get_within nodes place node at in omega arith)
-
-and_comm : (a b : Bool) → a && b ≡ b && a
-and_comm true true = refl
-and_comm true false = refl
-and_comm false true = refl
-and_comm false false = refl
 
 pub and_joined : (inputs : ℕ → Bool) (old new : List Node) (a b place : ℕ) → IsCircuit new → StandsAt new (And (min a b) (max a b)) place → Keeps old new → IsOf old a → IsOf old b
     → value inputs new (2 * place) ≡ value inputs old a && value inputs old b
@@ -248,9 +223,17 @@ free_by a b false false false false false false hp hq hs hu is =
     let b1 = hu refl in
     (omega arith, omega arith)
 
-not_same : (a b : ℕ) → (a == b) ≡ false → a ≢ b
-not_same a b e same = false≢true (sym e ∙ eq-eqb a b same)
-
 pub free_sides : (a b : ℕ) → None ≡ simplified a b → (1 < a) × (1 < b)
 free_sides a b is =
-    free_by a b (a == 0) (b == 0) (a == negation b) (a == 1) (a == b) (b == 1) (not_same a 0) (not_same b 0) (not_same a 1) (not_same b 1) is
+    free_by a b (a == 0) (b == 0) (a == negation b) (a == 1) (a == b) (b == 1) (eqb-false a 0) (eqb-false b 0) (eqb-false a 1) (eqb-false b 1) is
+
+-- a conjunction adds one node at most
+few_by : (o : Option ℕ) (old new : List Node) (node : Node) → MatchOption o (PutsOnce old new node) (λ known. new ≡ old) → length new ≤ length old + 1
+few_by (Some known) old new node same = omega (arith, ap length same)
+few_by None old new node puts = elim puts [
+  | inl same ↦ omega (arith, ap length same)
+  | inr more ↦ omega (arith, ap length more.1, length-append old (node ∷ []))
+]
+
+pub joins_few : (a b : ℕ) (old new : List Node) → Joins a b old new → length new ≤ length old + 1
+joins_few a b old new joins = few_by (simplified a b) old new (conjunction a b) joins

@@ -1,12 +1,13 @@
 -- How the values of a circuit grow with it.
-use Rattle.std.proofs.Common.{◌≡◌, ℕ, ◌+◌, ◌*◌, ◌/◌, ◌%◌, ◌<◌, ◌&&◌, Bool, false, not, List, [], ◌∷◌, ◌++◌, length, get_or, slice_get, Some, refl, sym, subst, ap, ◌∙◌, arith, length-append, append_assoc}
+use Rattle.std.proofs.Common.{◌≡◌, ℕ, suc, ◌+◌, ◌*◌, ◌/◌, ◌%◌, ◌<◌, ◌&&◌, Bool, false, not, List, [], ◌∷◌, ◌++◌, length, take, drop, get_or, slice_get, Some, All, refl, sym, subst, ap, ◌∙◌, arith, inl, inr, length-append, append_assoc}
 use Rattle.std.specs.Prelude.{◌==◌, if◌then◌else◌}
-use Rattle.std.proofs.lemmas.List.{get_or_append_left}
-use Rattle.std.proofs.lemmas.List.{append-nil, get_or_at}
-use Rattle.gate_core.proofs.Places.{split_at_place}
+use Rattle.std.proofs.lemmas.Bool.{cases_lt}
+use Rattle.std.proofs.lemmas.List.{append-nil, get_or_append_left, get_or_at, length-take, take-append-drop, take_all}
+use Rattle.std.proofs.lemmas.Option.{slice_get_within}
+use Rattle.gate_core.proofs.Places.{split_at_place, slice_get-append}
 use Rattle.gate_core.specs.declared.circuit.Node.{Node}
-use Rattle.gate_core.specs.declared.circuit.Node.TheVariants.{Input, And}
-use Rattle.gate_core.specs.Circuit.{gate_value, node_value, values_behind, value, Keeps}
+use Rattle.gate_core.specs.declared.circuit.Node.TheVariants.{Zero, Input, And}
+use Rattle.gate_core.specs.Circuit.{gate_value, node_value, values_behind, value, IsOf, Keeps, StandsAt, InputsBelowDecide}
 
 -- values behind nodes that stand are computed in two parts
 pub values-append : (inputs : ℕ → Bool) (before : List Bool) (xs ys : List Node)
@@ -58,6 +59,24 @@ keeps_by old new more is = subst (λ ns. Keeps old ns) (sym is) (keeps old more)
 pub keeps_same : (old new : List Node) → new ≡ old → Keeps old new
 keeps_same old new is = keeps_by old new [] (is ∙ sym (append-nil old))
 
+-- a gate stays one
+pub of_more : (old new : List Node) (gate : ℕ) → Keeps old new → IsOf old gate → IsOf new gate
+of_more old new gate keeps of = omega (arith, ap length keeps.behind, length-append old keeps.more)
+
+pub all_more : (old new : List Node) (gates : List ℕ) → Keeps old new → All (IsOf old) gates → All (IsOf new) gates
+all_more old new gates keeps of = λ k d within. of_more old new (get_or gates k d) keeps (of k d within)
+
+-- a circuit that grows twice
+pub keeps_twice : (old middle new : List Node) → Keeps old middle → Keeps middle new → Keeps old new
+keeps_twice old middle new first second = record {
+  more = first.more ++ second.more;
+  behind = second.behind ∙ ap (λ ns. ns ++ second.more) first.behind ∙ append_assoc old first.more second.more;
+  values = λ inputs gate of. second.values inputs gate (of_more old middle gate first of) ∙ first.values inputs gate of;
+}
+
+-- the lemmas of a circuit that grows step by step
+pub ruleset growing = (of_more, keeps_twice)
+
 -- the edge to a node does not negate
 pub edge : (values : List Bool) (place : ℕ) → gate_value values (2 * place) ≡ get_or values place false
 edge values place =
@@ -96,6 +115,54 @@ value_standing inputs nodes a b place at a_before b_before =
     ∙ value_pushed_and inputs before a b
     ∙ ap (λ v. v && value inputs before b) (sym (first.values inputs a (omega arith)))
     ∙ ap (λ v. value inputs nodes a && v) (sym (first.values inputs b (omega arith)))
+
+-- the value of an input that stands
+pub value_standing_input : (inputs : ℕ → Bool) (nodes : List Node) (place : ℕ) → StandsAt nodes Input place → value inputs nodes (2 * place) ≡ inputs place
+value_standing_input inputs nodes place at =
+    let parts = split_at_place nodes place Input at in
+    let count : length parts.0 ≡ place = parts.3 in
+    let whole : Keeps (parts.0 ++ Input ∷ []) nodes = keeps_by (parts.0 ++ Input ∷ []) nodes parts.1 parts.2 in
+    whole.values inputs (2 * place) (omega (arith, length-append parts.0 (Input ∷ [])))
+    ∙ ap (λ p. value inputs (parts.0 ++ Input ∷ []) (2 * p)) (sym count) ∙ value_pushed_input inputs parts.0 ∙ ap inputs count
+
+-- nodes behind a gate's own do not change its value
+value-take : (inputs : ℕ → Bool) (nodes : List Node) (gate n : ℕ) → gate / 2 < n → value inputs nodes gate ≡ value inputs (take n nodes) gate
+value-take inputs nodes gate n less = elim (cases_lt (gate / 2) (length nodes)) [
+  | inl within ↦ (keeps_by (take n nodes) nodes (drop n nodes) (sym (take-append-drop n nodes))).values inputs gate (omega (arith, length-take n nodes))
+  | inr past ↦ ap (λ ns. value inputs ns gate) (sym (take_all n nodes (omega arith)))
+]
+
+-- nodes have the same values under assignments that agree at the inputs among them
+node_decided : (inputs others : ℕ → Bool) (before : List Bool) (node : Node) → (node ≡ Input → inputs (length before) ≡ others (length before))
+    → node_value inputs before node ≡ node_value others before node
+node_decided inputs others before Zero agree = refl
+node_decided inputs others before Input agree = agree refl
+node_decided inputs others before (And a b) agree = refl
+
+values_decided : (inputs others : ℕ → Bool) (before : List Bool) (nodes : List Node)
+    → ((k place : ℕ) → StandsAt nodes Input k → place ≡ length before + k → inputs place ≡ others place) → values_behind inputs before nodes ≡ values_behind others before nodes
+unfolding values_behind
+values_decided inputs others before [] agree = refl
+values_decided inputs others before (node ∷ nodes) agree =
+    let here : node_value inputs before node ≡ node_value others before node =
+    node_decided inputs others before node (λ is. agree 0 (length before) (ap (λ (n : Node). Some n) is) (omega arith)) in
+    ap (λ v. values_behind inputs (before ++ v ∷ []) nodes) here
+    ∙ values_decided inputs others (before ++ node_value others before node ∷ []) nodes
+    (λ k place at is. agree (suc k) place at (omega (arith, length-append before (node_value others before node ∷ []))))
+
+-- a gate has one value under all assignments that agree at the inputs below it
+pub value_decided : InputsBelowDecide
+unfolding value
+value_decided nodes gate inputs others agree =
+    let front = take (gate / 2 + 1) nodes in
+    let whole : front ++ drop (gate / 2 + 1) nodes ≡ nodes = take-append-drop (gate / 2 + 1) nodes in
+    value-take inputs nodes gate (gate / 2 + 1) (omega arith)
+    ∙ ap (λ vs. gate_value vs gate) (values_decided inputs others [] front (λ k place at is.
+    let within : k < length front = slice_get_within front k Input at in
+    let same : place ≡ k = omega arith in
+    agree place (omega (arith, length-take (gate / 2 + 1) nodes))
+    (subst (λ p. StandsAt nodes Input p) (sym same) (subst (λ ns. StandsAt ns Input k) whole (slice_get-append front (drop (gate / 2 + 1) nodes) k Input at)))))
+    ∙ sym (value-take others nodes gate (gate / 2 + 1) (omega arith))
 
 -- the same where the circuits are named by what they are
 pub keeps_input : (old new : List Node) → new ≡ old ++ Input ∷ [] → Keeps old new

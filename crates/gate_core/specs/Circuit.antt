@@ -35,6 +35,19 @@ values_behind inputs before (node ∷ nodes) = values_behind inputs (before ++ n
 unfoldable pub value : (ℕ → Bool) → List Node → ℕ → Bool
 value inputs nodes gate = gate_value (values_behind inputs [] nodes) gate
 
+-- the node stands at the place
+abbrev pub StandsAt : List Node → Node → ℕ → Type 0
+StandsAt nodes node place = slice_get nodes place ≡ Some node
+
+-- two assignments agree at the inputs below a gate: at those with places up to its node's
+abbrev pub AgreeBelow : List Node → ℕ → (ℕ → Bool) → (ℕ → Bool) → Type 0
+AgreeBelow nodes gate inputs others = (place : ℕ) → place ≤ node_of gate → StandsAt nodes Input place → inputs place ≡ others place
+
+-- the value of a gate hangs on the inputs below it alone
+abbrev pub InputsBelowDecide : Type 0
+InputsBelowDecide =
+    (nodes : List Node) (gate : ℕ) (inputs others : ℕ → Bool) → AgreeBelow nodes gate inputs others → value inputs nodes gate ≡ value others nodes gate
+
 -- the gate is an edge of the circuit
 abbrev pub IsOf : List Node → ℕ → Type 0
 IsOf nodes gate = gate < 2 * length nodes
@@ -54,10 +67,6 @@ simplified a b =
 -- the node of a conjunction: its sides in rising order, so that the order of the call does not matter
 abbrev pub conjunction : ℕ → ℕ → Node
 conjunction a b = And (min a b) (max a b)
-
--- the node stands at the place
-abbrev pub StandsAt : List Node → Node → ℕ → Type 0
-StandsAt nodes node place = slice_get nodes place ≡ Some node
 
 -- the gate is that of the conjunction: the simplified one, or the edge to the node that holds it
 abbrev pub IsConjunction : List Node → ℕ → ℕ → ℕ → Type 0

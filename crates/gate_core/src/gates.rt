@@ -1,5 +1,5 @@
 ghost use Rattle.std.specs.Prelude.{◌≡◌, ℕ, ◌+◌, ◌*◌, ◌<◌, ◌≤◌, ◌^◌, ◌++◌, ◌∷◌, [], ◌&&◌, Bool, length, IfOk, OnOk, OnErr, Some, slice_get, if◌then◌else◌};
-ghost use Rattle.gate_core.specs.Circuit.{value, conjunction, IsOf, Keeps, IsConjunction, IsCircuit, Joins, PairsHaveOneGate, simplified};
+ghost use Rattle.gate_core.specs.Circuit.{value, conjunction, IsOf, Keeps, IsConjunction, IsCircuit, Joins, PairsHaveOneGate, InputsBelowDecide, simplified};
 ghost use Rattle.gate_core.specs.declared.circuit.Node.TheVariants.{Zero, Input};
 
 use crate::arena::{self, Cell, END};
@@ -113,4 +113,9 @@ const FIRST_HEADS: usize = 16;
 /// Pairs that are equal but for their order have one gate, at whatever time they are asked.
 pub fn pairs_have_one_gate()
     ensures { PairsHaveOneGate }
+{}
+
+/// The value of a gate hangs on the inputs below it alone: on those with places up to its node's.
+pub fn inputs_below_decide()
+    ensures { InputsBelowDecide }
 {}

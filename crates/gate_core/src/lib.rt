@@ -9,4 +9,4 @@ mod gates;
 mod tests;
 
 pub use circuit::{Gate, Node};
-pub use gates::Gates;
+pub use gates::{Gates, inputs_below_decide, pairs_have_one_gate};

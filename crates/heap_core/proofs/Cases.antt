@@ -16,9 +16,10 @@ use Rattle.heap_core.specs.declared.value.Seen.TheVariants as seen
 use Rattle.heap_core.specs.Posed.{Posed}
 use Rattle.heap_core.specs.Heap.{Heap}
 use Rattle.heap_core.specs.Eval.{Env, eval}
-use Rattle.heap_core.specs.Exec.{Gives, Goes, Raises, Stops, Frame, Memory, exec, code, calls}
+use Rattle.heap_core.specs.Exec.{Gives, Throws, Leaves, Goes, Raises, Stops, Frame, Memory, exec, code, calls}
 use Rattle.heap_core.proofs.EvalForms.{eval_forms}
 use Rattle.heap_core.proofs.ExecForms.{code_forms, exec_forms}
+use Rattle.heap_core.proofs.RowParts.{call_on}
 
 -- class N { int v; N next; } and its heap of two objects: @0 v=0 next=@1, @1 v=7 next=null
 abbrev classes : List ClassDef
@@ -173,13 +174,36 @@ value_before_null = simp (code_forms, exec_forms) refl
 null_throws : exec posed (calls posed 0) (s.Write (e.Local 0) 0 (e.Local 2)) frame memory ≡ Raises memory
 null_throws = simp (code_forms, exec_forms) refl
 
+-- `x.next.v = e` with x null throws before e leaves the scope
+object_before_value : exec posed (calls posed 0) (s.Write (e.Read (e.Local 0) 1) 0 (e.Bin op.Add (e.Local 2) (e.Num (pos 1)))) frame memory ≡ Raises memory
+object_before_value = simp (code_forms, exec_forms) refl
+
 -- `y.v--` and `y.v = y.v - 1`
 steps_down : exec posed (calls posed 0) (s.StepField (e.Local 1) 0 false) frame memory ≡ Goes frame.locals (record { heap = object (negsuc 0) (v.Obj 1) ∷ object (pos 7) v.Null ∷ [] })
 steps_down = simp (code_forms, exec_forms) refl
 
+-- `x.v++` with x null throws
+step_throws : exec posed (calls posed 0) (s.StepField (e.Local 0) 0 true) frame memory ≡ Raises memory
+step_throws = simp (code_forms, exec_forms) refl
+
 -- `i++` at 7 leaves the scope
 step_leaves : exec posed (calls posed 0) (s.StepLocal 2 true) frame memory ≡ Stops
 step_leaves = simp exec_forms refl
+
+-- `||` of code does not look at its right operand where the left one is true
+right_not_looked_at : code posed (calls posed 0) (e.Bin op.Or (e.Flag true) (e.Bin op.Eq (v_of 0) (e.Num (pos 0)))) frame memory ≡ Gives (v.Flag true) memory
+right_not_looked_at = simp code_forms refl
+
+-- of `x.next.m(i + 1)` with x null the target throws before the argument leaves the scope
+target_before_argument : code posed (calls posed 0) (e.Call (call_on 0 (e.Read (e.Local 0) 1) (e.Bin op.Add (e.Local 2) (e.Num (pos 1)) ∷ []))) frame memory ≡ Throws memory
+target_before_argument = simp code_forms refl
+
+-- of `y.m(x.v, i + 1)` the first argument throws, of `y.m(i + 1, x.v)` it leaves the scope
+first_argument_throws : code posed (calls posed 0) (e.Call (call_on 0 (e.Local 1) (v_of 0 ∷ e.Bin op.Add (e.Local 2) (e.Num (pos 1)) ∷ []))) frame memory ≡ Throws memory
+first_argument_throws = simp code_forms refl
+
+first_argument_leaves : code posed (calls posed 0) (e.Call (call_on 0 (e.Local 1) (e.Bin op.Add (e.Local 2) (e.Num (pos 1)) ∷ v_of 0 ∷ []))) frame memory ≡ Leaves
+first_argument_leaves = simp code_forms refl
 
 -- a `new` object has the next number and begins with 0 and null
 new_object : code posed (calls posed 0) (e.New 0) frame memory ≡ Gives (v.Obj 2) (record { heap = two ++ object (pos 0) v.Null ∷ [] })

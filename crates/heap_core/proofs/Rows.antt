@@ -1,23 +1,13 @@
--- Worked rows: units as trees, with what their starts are judged. Names are left empty: no definition of
--- this crate reads them.
-use Rattle.std.proofs.Common.{◌≡◌, ℕ, Bool, true, false, List, [], ◌∷◌, Option, Some, None, refl}
-use Rattle.std.specs.Prelude.{pos, map, length}
-use Rattle.std.specs.List.{range_with_len}
-use Rattle.taco_unit.specs.declared.kind.Kind.{Kind}
+-- Worked rows: units as trees, with what their starts are judged.
+use Rattle.std.proofs.Common.{◌≡◌, ℕ, true, false, List, [], ◌∷◌, Some, None, refl}
+use Rattle.std.specs.Prelude.{pos}
 use Rattle.taco_unit.specs.declared.kind.Kind.TheVariants.{Int, Flag, Ref}
 use Rattle.taco_unit.specs.declared.expr.Op.TheVariants as op
 use Rattle.taco_unit.specs.declared.expr.Expr.{Expr}
 use Rattle.taco_unit.specs.declared.expr.Expr.TheVariants as e
-use Rattle.taco_unit.specs.declared.expr.Call.{roll-Call}
 use Rattle.taco_unit.specs.declared.stmt.Stmt.{Stmt}
 use Rattle.taco_unit.specs.declared.stmt.Stmt.TheVariants as s
-use Rattle.taco_unit.specs.declared.unit.ClassDef.{ClassDef}
-use Rattle.taco_unit.specs.declared.unit.FieldDef.{FieldDef}
-use Rattle.taco_unit.specs.declared.unit.ParamDef.{ParamDef}
-use Rattle.taco_unit.specs.declared.unit.MethodDef.{MethodDef}
-use Rattle.heap_core.specs.declared.value.Value.{Value}
 use Rattle.heap_core.specs.declared.value.Value.TheVariants as v
-use Rattle.heap_core.specs.declared.value.Object.{Object}
 use Rattle.heap_core.specs.declared.start.Start.{Start}
 use Rattle.heap_core.specs.declared.judged.Part.TheVariants as part
 use Rattle.heap_core.specs.declared.judged.Judged.TheVariants.{Outside, NotAsked, Breaks, Meets}
@@ -26,49 +16,7 @@ use Rattle.heap_core.specs.Exec.{Gives}
 use Rattle.heap_core.specs.Judge.{judged, run_of}
 use Rattle.heap_core.proofs.EvalForms.{eval_forms}
 use Rattle.heap_core.proofs.ExecForms.{code_forms, exec_forms}
-
--- a class with these members
-abbrev class_with : List ℕ → List ℕ → ClassDef
-class_with fields methods = record { name = []; fields = fields; methods = methods; invariants = [] }
-
--- a field of class 0
-abbrev field_of : Kind → Bool → FieldDef
-field_of kind nullable = record { name = []; class = 0; kind = kind; nullable = nullable }
-
-abbrev param_of : Kind → Bool → ParamDef
-param_of kind nullable = record { name = []; kind = kind; nullable = nullable }
-
--- a method of class 0, static where that is said
-abbrev method_with : Bool → List ParamDef → Option (Kind × Bool) → List Kind → List Expr → List Expr → Stmt → MethodDef
-method_with fixed params result locals needs gives body = record {
-  name = [];
-  class = 0;
-  fixed = fixed;
-  params = params;
-  result = result;
-  locals = locals;
-  needs = map (λ x. record { expr = x }) needs;
-  gives = map (λ x. record { expr = x }) gives;
-  body = body;
-}
-
--- the first method of a unit of one class, at K objects, 4 bits, n turns and d calls
-abbrev posed : List FieldDef → List MethodDef → ℕ → ℕ → ℕ → Posed
-posed fields methods objects loops calls = record {
-  unit = record {
-    classes = class_with (range_with_len 0 (length fields)) (range_with_len 0 (length methods)) ∷ [];
-    fields = fields;
-    methods = methods;
-  };
-  method = 0;
-  scope = record { objects = objects; ints = 4; loops = loops; calls = calls };
-}
-
-abbrev object : List Value → Object
-object cells = record { class = 0; cells = cells }
-
-abbrev start : List Object → Value → List Value → Start
-start objects this args = record { objects = objects; this = this; args = args }
+use Rattle.heap_core.proofs.RowParts.{field_of, param_of, method_with, posed, call_on, object, start}
 
 -- ## static int inc(int x) { return x + 1; }
 abbrev inc : Expr → Posed
@@ -197,11 +145,8 @@ sum_leaves = simp (eval_forms, code_forms, exec_forms) refl
 abbrev runs : Stmt → ℕ → Posed
 runs body calls = posed (field_of (Ref 0) true ∷ []) (method_with false (param_of (Ref 0) true ∷ []) None [] [] [] body ∷ []) 1 3 calls
 
-abbrev call_on : Expr → List Expr → Expr
-call_on target args = e.Call (roll-Call (record { method = 0; target = Some target; args = args }))
-
 abbrev run_on : Expr → Stmt
-run_on x = s.Run (roll-Call (record { method = 0; target = Some x; args = x ∷ [] }))
+run_on x = s.Run (call_on 0 x (x ∷ []))
 
 -- a call of itself without end is nested too deep, at every depth
 too_deep : judged (runs (run_on (e.Local 0)) 2) (start (object (v.Null ∷ []) ∷ []) (v.Obj 0) (v.Obj 0 ∷ [])) ≡ Outside
@@ -210,3 +155,14 @@ too_deep = simp (code_forms, exec_forms) refl
 -- null is looked at before the depth: with no call left, a call on null throws
 null_before_depth : judged (runs (run_on (e.Local 0)) 0) (start (object (v.Null ∷ []) ∷ []) (v.Obj 0) (v.Null ∷ [])) ≡ Breaks part.Thrown
 null_before_depth = simp (code_forms, exec_forms) refl
+
+-- the same with void run(N x) { if (x != null) { x.run(null); } }
+abbrev run_once : Stmt
+run_once = s.If (e.Bin op.Ne (e.Local 0) e.Null) (s.Run (call_on 0 (e.Local 0) (e.Null ∷ []))) (s.Block [])
+
+-- one call is too deep where none may be nested, and not where one may be
+no_call_left : judged (runs run_once 0) (start (object (v.Null ∷ []) ∷ []) (v.Obj 0) (v.Obj 0 ∷ [])) ≡ Outside
+no_call_left = simp (code_forms, exec_forms) refl
+
+one_call_left : judged (runs run_once 1) (start (object (v.Null ∷ []) ∷ []) (v.Obj 0) (v.Obj 0 ∷ [])) ≡ Meets
+one_call_left = simp (code_forms, exec_forms) refl

@@ -5,7 +5,7 @@
 -- own are the two other outcomes: Bad where null is read through (JML Reference Manual, "Expression
 -- Evaluation and Undefinedness": such a clause is not true), Out where a number leaves its width. What the
 -- kinds of a well unit rule out is Out.
-use Rattle.std.specs.Prelude.{ℕ, zero, suc, pos, Bool, true, false, not, ◌&&◌, ◌||◌, if◌then◌else◌, List, [], ◌∷◌, ◌++◌, count_by, slice_get, Option, Some, None}
+use Rattle.std.specs.Prelude.{ℕ, pos, Bool, true, false, not, ◌&&◌, ◌||◌, if◌then◌else◌, List, [], ◌∷◌, ◌++◌, count_by, slice_get, Option, Some, None}
 use Rattle.std.specs.List.{list_any, list_all, range_with_len}
 use Rattle.taco_unit.specs.declared.unit.ClassDef.{ClassDef}
 use Rattle.taco_unit.specs.declared.expr.Op.{Op}
@@ -18,6 +18,7 @@ use Rattle.heap_core.specs.declared.value.Seen.{Seen}
 use Rattle.heap_core.specs.declared.value.Seen.TheVariants.{Is, Bad, Out}
 use Rattle.heap_core.specs.Outcomes.{number, flag, value_in, with_value, with_flag, as_flag, opposite, negative, operated, is_out, is_bad, is_true, is_object, gives_object}
 use Rattle.heap_core.specs.Heap.{Heap, is_of, field}
+use Rattle.heap_core.specs.Closure.{closure}
 
 -- what a clause is evaluated in
 pub record Env : Type 0 where
@@ -89,20 +90,10 @@ quantified q env =
 abbrev pub points : Env → List ℕ → ℕ → ℕ → Bool
 points env fields p o = list_any (λ f. gives_object o (field env.classes env.heap f (Obj p))) fields
 
--- the set, with the objects that its objects hold in the fields
-abbrev pub widened : Env → List ℕ → (ℕ → Bool) → ℕ → Bool
-widened env fields set o = set o || list_any (λ p. set p && points env fields p o) (range_with_len 0 env.objects)
-
--- the set, widened n times
-abbrev pub rounds : ℕ → Env → List ℕ → (ℕ → Bool) → ℕ → Bool
-rounds zero env fields set = set
-rounds (suc n) env fields set = widened env fields (rounds n env fields set)
-
 -- `\reach`: the least set that holds the value, if it is an object, and with each object the objects in
--- its fields; as many rounds as there can be objects make it closed (JML Reference Manual, "\reach", cut
--- to the fields named: this project's own)
+-- its fields (JML Reference Manual, "\reach", cut to the fields named: this project's own)
 abbrev pub reached : Env → List ℕ → Value → ℕ → Bool
-reached env fields v = rounds env.objects env fields (λ o. is_object o v)
+reached env fields v = closure (points env fields) env.objects (λ o. is_object o v)
 
 -- whether a value is an object of the set
 abbrev pub holds : (ℕ → Bool) → Value → Seen

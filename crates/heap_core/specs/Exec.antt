@@ -26,6 +26,10 @@ use Rattle.heap_core.specs.Heap.{Heap, cell, put, grown}
 pub record Memory : Type 0 where
   pub heap : Heap
 
+-- the memory in which a run begins: this heap, and nothing else was done so far
+abbrev pub memory_of : Heap → Memory
+memory_of heap = record { heap = heap }
+
 -- how an evaluation in code ends: it gives what it is evaluated for, it throws NullPointerException, or
 -- it leaves the scope (Out)
 pub data Ends (A : Type 0) : Type 0 where

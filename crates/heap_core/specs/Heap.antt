@@ -1,6 +1,6 @@
 -- Heaps: lists of objects, numbered from 0. (Java Language Specification, "Objects", "Field Access
 -- Expressions", "Class Instance Creation Expressions".)
-use Rattle.std.specs.Prelude.{ℕ, ◌==◌, nat_lt, Bool, false, if◌then◌else◌, List, [], ◌∷◌, ◌++◌, length, map, slice_get, slice_set, position, Option, Some, None, option_map, option_and_then}
+use Rattle.std.specs.Prelude.{ℕ, ◌==◌, nat_lt, Bool, false, if◌then◌else◌, List, [], ◌∷◌, ◌++◌, length, map, slice_get, slice_set, position, Option, Some, None, option_map, option_and_then, is_some}
 use Rattle.std.specs.Option.{option_map_or}
 use Rattle.taco_unit.specs.declared.unit.ClassDef.{ClassDef}
 use Rattle.taco_unit.specs.declared.unit.FieldDef.{FieldDef}
@@ -20,9 +20,17 @@ Heap = List Object
 abbrev pub is_of : Heap → ℕ → ℕ → Bool
 is_of heap class o = option_map_or (λ x. x.class == class) (slice_get heap o) false
 
+-- the class of the object of this number, where the heap has it
+abbrev pub class_at : Heap → ℕ → Option ℕ
+class_at heap o = option_map (λ x. x.class) (slice_get heap o)
+
 -- the place of a field among the cells of the objects of a class
 abbrev pub place_of : List ClassDef → ℕ → ℕ → Option ℕ
 place_of classes class f = option_and_then (λ d. position (λ g. g == f) d.fields) (slice_get classes class)
+
+-- the class declares the field
+abbrev pub declares : List ClassDef → ℕ → ℕ → Bool
+declares classes class f = is_some (place_of classes class f)
 
 -- the value of a field of an object
 abbrev pub cell : List ClassDef → ℕ → Object → Option Value

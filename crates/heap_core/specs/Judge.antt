@@ -24,7 +24,7 @@ use Rattle.heap_core.specs.Posed.{Posed}
 use Rattle.heap_core.specs.Outcomes.{is_null, is_out, is_true, gives_null}
 use Rattle.heap_core.specs.Heap.{Heap, field}
 use Rattle.heap_core.specs.Eval.{Env, eval}
-use Rattle.heap_core.specs.Exec.{Ends, Gives, Throws, Leaves, calls, run_body}
+use Rattle.heap_core.specs.Exec.{Memory, memory_of, Ends, Gives, Throws, Leaves, calls, run_body}
 use Rattle.heap_core.specs.Start.{Fits, method_of}
 
 -- the numbers of a heap's objects
@@ -151,25 +151,31 @@ first_broken (b ∷ bs) = Breaks b
 
 -- the run of the method: its body, in which calls may be nested as deep as the scope says
 abbrev pub run_of : Posed → Start → Ends (Option Value)
-run_of p s = run_body p (calls p p.scope.calls) (method_of p) s.this s.args (record { heap = s.objects })
+run_of p s = run_body p (calls p p.scope.calls) (method_of p) s.this s.args (memory_of s.objects)
 
--- the judgement where the method gives this result and this heap
-abbrev pub judged_end : Posed → Start → Option Value → Heap → Judged
-judged_end p s r heap =
-    if list_any is_out (gives_of p s r heap) || list_any is_out (all_invariants p heap) then Outside
-    else first_broken (broken_parts p s r heap)
+-- the judgement where the method gives this result and leaves this memory
+abbrev pub judged_end : Posed → Start → Option Value → Memory → Judged
+judged_end p s r m =
+    if list_any is_out (gives_of p s r m.heap) || list_any is_out (all_invariants p m.heap) then Outside
+    else first_broken (broken_parts p s r m.heap)
 
 -- the judgement where the run ends so
 abbrev pub judged_run : Posed → Start → Ends (Option Value) → Judged
-judged_run p s (Gives r m) = judged_end p s r m.heap
+judged_run p s (Gives r m) = judged_end p s r m
 judged_run p s (Throws m) = Breaks part.Thrown
 judged_run p s Leaves = Outside
 
+-- an invariant of the start's heap or a `requires` clause leaves the scope
+abbrev pub leaves_before : Posed → Start → Bool
+leaves_before p s = list_any is_out (all_invariants p s.objects) || list_any is_out (needs_of p s)
+
 -- the judgement of a start: the first line that applies
 abbrev pub judged : Posed → Start → Judged
-judged p s =
-    if list_any is_out (all_invariants p s.objects) || list_any is_out (needs_of p s) then Outside
-    else (if not (is_asked p s) then NotAsked else judged_run p s (run_of p s))
+judged p s = if leaves_before p s then Outside else (if not (is_asked p s) then NotAsked else judged_run p s (run_of p s))
+
+-- neither of the first two lines applies, so that the judgement is that of the run
+abbrev pub run_decides : Posed → Start → Bool
+run_decides p s = not (leaves_before p s) && is_asked p s
 
 -- the start fits, and the judgement is that this part is broken
 pub record Violates (p : Posed) (s : Start) (b : Part) : Type 0 where

@@ -1,9 +1,11 @@
 pub mod Posed
 pub mod Outcomes
 pub mod Heap
+pub mod Closure
 pub mod Eval
 pub mod Exec
 pub mod Start
 pub mod Judge
+pub mod Kinded
 pub mod Laws
 pub mod Stages

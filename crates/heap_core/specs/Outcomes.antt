@@ -112,6 +112,19 @@ same (Num x) (Num y) = flag (int_eq x y)
 same (Flag a) (Flag b) = flag (same_flag a b)
 same _ _ = Out
 
+-- two values are one
+abbrev pub is_value : Value → Value → Bool
+is_value Null Null = true
+is_value (Obj o) (Obj p) = o == p
+is_value (Num x) (Num y) = int_eq x y
+is_value (Flag a) (Flag b) = same_flag a b
+is_value _ _ = false
+
+-- the evaluation gives the value
+abbrev pub gives : Value → Seen → Bool
+gives v (Is u) = is_value u v
+gives v _ = false
+
 -- the opposite truth value (Java Language Specification, "Logical Complement Operator !")
 abbrev pub opposite : Value → Seen
 opposite = on_flag (λ b. flag (not b))

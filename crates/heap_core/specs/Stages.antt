@@ -1,12 +1,15 @@
--- How far a visit of a start's objects has come. (This project's own.)
-use Rattle.std.specs.Prelude.{◌≡◌, ℕ, ◌<◌, Bool, true, false, if◌then◌else◌, List, ◌∷◌, length, slice_get, slice_set, slice_index_or, sum_by, fold, Some, Contains}
+-- How far a visit along the edges of a graph has come. (This project's own.)
+use Rattle.std.specs.Prelude.{ℕ, Bool, true, false, if◌then◌else◌, List, ◌∷◌, length, slice_get, slice_set, slice_index_or, fold}
+use Rattle.std.specs.List.{list_any}
+use Rattle.std.specs.Option.{option_map_or}
 use Rattle.heap_core.specs.declared.value.Value.{Value}
 use Rattle.heap_core.specs.declared.value.Value.TheVariants.{Obj}
-use Rattle.heap_core.specs.declared.value.Object.{Object}
 use Rattle.heap_core.specs.declared.start.Start.{Start}
 use Rattle.heap_core.specs.declared.visit.Stage.{Stage}
 use Rattle.heap_core.specs.declared.visit.Stage.TheVariants.{Unseen, Waiting, Done}
-use Rattle.heap_core.specs.Start.{Reached}
+use Rattle.heap_core.specs.Outcomes.{is_object}
+use Rattle.heap_core.specs.Heap.{Heap}
+use Rattle.heap_core.specs.Closure.{Graph, closure}
 
 abbrev pub is_unseen : Stage → Bool
 is_unseen Unseen = true
@@ -20,7 +23,7 @@ abbrev pub is_done : Stage → Bool
 is_done Done = true
 is_done _ = false
 
--- the stage of an object; one that the heap lacks has nothing to be visited
+-- the stage of the object of a number; one beyond the list has nothing to be visited
 abbrev pub stage_of : List Stage → ℕ → Stage
 stage_of stages o = slice_index_or stages o Done
 
@@ -33,19 +36,16 @@ found stages _ = stages
 abbrev pub found_all : List Stage → List Value → List Stage
 found_all = fold found
 
--- an object that is not done counts one
-abbrev pub weight : Stage → ℕ
-weight Done = 0
-weight _ = 1
+-- ## the graph of a start
 
--- how many objects are not done
-abbrev pub left : List Stage → ℕ
-left = sum_by weight
+-- a cell of object p holds object o
+abbrev pub held : Heap → Graph
+held heap p o = option_map_or (λ x. list_any (is_object o) x.cells) (slice_get heap p) false
 
--- the objects that were come upon are reached; the receiver's and the arguments' objects were come upon,
--- and so were the objects in the cells of those that are done
-pub record Visits (s : Start) (stages : List Stage) : Type 0 where
-  pub sized : length stages ≡ length s.objects
-  pub reached : (o : ℕ) → o < length s.objects → is_unseen (stage_of stages o) ≡ false → Reached s o
-  pub roots : (o : ℕ) → Contains (s.this ∷ s.args) (Obj o) → is_unseen (stage_of stages o) ≡ false
-  pub closed : (p o : ℕ) (x : Object) → is_done (stage_of stages p) ≡ true → slice_get s.objects p ≡ Some x → Contains x.cells (Obj o) → is_unseen (stage_of stages o) ≡ false
+-- object o is the receiver or an argument
+abbrev pub given : Start → ℕ → Bool
+given s o = list_any (is_object o) (s.this ∷ s.args)
+
+-- an object is reached from the receiver or an argument along cells
+abbrev pub is_reached : Start → ℕ → Bool
+is_reached s = closure (held s.objects) (length s.objects) (given s)

@@ -1,25 +1,15 @@
 ghost use Rattle.std.specs.Prelude.{◌≡◌, ◌≤◌};
 ghost use Rattle.std.specs.List.{list_all};
 ghost use Rattle.std.specs.Cmp.Lexicographic.{pointwise};
-ghost use Rattle.heap_core.specs.Outcomes.{in_bits as in_bits_lem};
 ghost use Rattle.heap_core.specs.Heap.{is_of as is_of_lem};
 ghost use Rattle.heap_core.specs.Start.{has_kind as has_kind_lem, has_field_kind as has_field_kind_lem, is_whole as is_whole_lem, is_argument, is_receiver as is_receiver_lem};
 
+use crate::numbers::in_bits;
 use crate::value::{Object, Value};
 use taco_unit::{FieldDef, Kind, ParamDef, Unit};
 
-/// Whether the number lies in two's complement of this many bits.
-fn in_bits(ints: u8, number: i32) -> bool
-    requires low { 2 ≤ ints }
-    requires high { ints ≤ 16 }
-    ensures { result ≡ in_bits_lem ints number }
-{
-    let edge = 1i32 << (ints - 1);
-    -edge <= number && number < edge
-}
-
 /// Whether the heap has the object, of this class.
-fn is_of(heap: &[Object], class: u8, object: u8) -> bool
+pub fn is_of(heap: &[Object], class: u8, object: u8) -> bool
     ensures { result ≡ is_of_lem heap.now class object }
 {
     match heap.get(usize::from(object)) {
@@ -35,7 +25,7 @@ fn has_kind(ints: u8, heap: &[Object], kind: Kind, value: Value) -> bool
     ensures { result ≡ has_kind_lem ints heap.now kind value }
 {
     match (kind, value) {
-        (Kind::Int, Value::Num(number)) => in_bits(ints, number),
+        (Kind::Int, Value::Num(number)) => in_bits(ints, i64::from(number)),
         (Kind::Flag, Value::Flag(_)) => true,
         (Kind::Ref(_), Value::Null) => true,
         (Kind::Ref(class), Value::Obj(object)) => is_of(heap, class, object),

@@ -1,27 +1,10 @@
+ghost use Rattle.std.specs.Prelude.{◌≡◌, ◌≤◌, ◌<◌, length, slice_get, Some};
+ghost use Rattle.heap_core.specs.Posed.{InRange};
+ghost use Rattle.heap_core.specs.Start.{method_of};
+ghost use Rattle.taco_unit.specs.Well.{IsWell};
+
 use std::marker::Model;
-use taco_unit::Unit;
-
-/// The bounds within which runs are judged.
-#[derive(Clone, Copy, Debug, PartialEq, Eq)]
-pub struct Scope {
-    /// The most objects that a heap may have, 1 to 12.
-    pub objects: u8,
-    /// The bits of an `int`, 2 to 16.
-    pub ints: u8,
-    /// The most turns of a loop at each entry, 0 to 12.
-    pub loops: u8,
-    /// How deep calls may be nested, 0 to 4.
-    pub calls: u8,
-}
-
-/// How the table of tuples is tightened: by how many workers (1 to 16), in how many rounds (1 to 8),
-/// and with how many conflicts for each query (0 for no bound).
-#[derive(Clone, Copy, Debug, PartialEq, Eq)]
-pub struct Plan {
-    pub workers: u32,
-    pub rounds: u8,
-    pub budget: u64,
-}
+use taco_unit::{MethodDef, Scope, Unit};
 
 /// A method of a unit that is to be judged within a scope. The scope's numbers lie in the ranges that
 /// `Scope` names, and the method is one of the unit's.
@@ -48,4 +31,31 @@ impl Model for Problem {
     ghost view = { λ p. record { unit = p.unit; method = p.method; scope = p.scope } };
 
     ghost invariant = { λ p. InRange (record { unit = p.unit; method = p.method; scope = p.scope }) };
+}
+
+/// The method of this number.
+fn method_at(unit: &Unit, method: u8) -> &MethodDef
+    requires { method < length unit.now.methods }
+    ensures there { slice_get unit.now.methods method ≡ Some result.now }
+    ensures few { length result.now.params ≤ 8 }
+{
+    &unit.methods.as_slice()[usize::from(method)]
+}
+
+/// The method that is judged: it has at most 8 parameters. Takes no memory.
+pub fn method_in(problem: &Problem) -> &MethodDef
+    ensures there { method_of problem.now ≡ Some result.now }
+    ensures few { length result.now.params ≤ 8 }
+{
+    method_at(&problem.unit, problem.method)
+}
+
+/// What is so of every problem: its unit is well (names, kinds and numbers of clauses), and its
+/// scope lies in the ranges of scopes.
+pub fn well_posed(problem: &Problem)
+    ensures unit { IsWell problem.now.unit }
+    ensures scope { InRange problem.now }
+{
+    let _classes = &problem.unit.classes;
+    let _scope = problem.scope;
 }

@@ -1,7 +1,7 @@
 ghost use Rattle.std.specs.Prelude.{◌↔◌, IsTrue};
 
 use crate::kinds::{are_arguments, are_whole, is_receiver};
-use crate::problem::Problem;
+use crate::problem::{Problem, method_in};
 use crate::value::{Object, Value};
 use crate::visit::reaches_all;
 use sqlite_items::Items;
@@ -27,7 +27,7 @@ impl Start {
     pub fn fits(&self, problem: &Problem) -> bool
         ensures { IsTrue result ↔ Fits self.now problem.now }
     {
-        let method = &problem.unit.methods.as_slice()[usize::from(problem.method)];
+        let method = method_in(problem);
         let ints = problem.scope.ints;
         let heap = self.objects.as_slice();
         heap.len() <= usize::from(problem.scope.objects)

@@ -29,7 +29,7 @@ fn place_in(fields: &[u8], field: u8) -> Option<usize>
 }
 
 /// The place of a field among the cells of the objects of a class.
-fn place_of(classes: &[ClassDef], class: u8, field: u8) -> Option<usize>
+pub(crate) fn place_of(classes: &[ClassDef], class: u8, field: u8) -> Option<usize>
     ensures { result ≡ place_of_lem classes.now class field }
 {
     match at(classes, usize::from(class)) {

@@ -1,6 +1,9 @@
+//! A visit of objects: from its roots along edges, each object once. The one that follows cells is
+//! here; a crate above may follow others by `find` and `next`.
+
 ghost use Rattle.std.specs.Prelude.{◌≡◌, true, false, ◌≤◌, ◌<◌, ℕ, length, ◌↔◌, IsTrue, IfNone, IfSome};
 ghost use Rattle.std.specs.List.{list_all};
-ghost use Rattle.heap_core.specs.Stages.{found, found_all, is_unseen, is_waiting, is_done, stage_of, Visits};
+ghost use Rattle.heap_core.specs.Stages.{found, found_all, is_unseen, is_waiting, is_done, stage_of, is_reached};
 ghost use Rattle.heap_core.specs.Start.{Reached};
 
 use crate::start::Start;
@@ -15,8 +18,8 @@ pub enum Stage {
     Done,
 }
 
-/// Comes upon a value.
-fn find(stages: &mut [Stage], value: Value)
+/// Comes upon a value: an object that was not come upon waits now. Takes constant time and no memory.
+pub fn find(stages: &mut [Stage], value: Value)
     ensures { stages.new ≡ found stages.old value }
 {
     if let Value::Obj(object) = value {
@@ -36,21 +39,21 @@ fn find_all(stages: &mut [Stage], values: &[Value])
     }
 }
 
-/// An object that waits, if there is one.
-fn next(stages: &[Stage]) -> Option<usize>
+/// The number of an object that waits, if there is one. Linear in the stages. Takes no memory.
+pub fn next(stages: &[Stage]) -> Option<usize>
     ensures none { IfNone result ((o : ℕ) → is_waiting (stage_of stages.now o) ≡ false) }
     ensures some { IfSome result (λ o. (o < length stages.now) × (is_waiting (stage_of stages.now o) ≡ true)) }
 {
     stages.iter().position(|stage| *stage == Stage::Waiting)
 }
 
-/// Visits the objects of a start, each once: from the receiver and the arguments along the fields.
-/// Afterwards none waits.
+/// Visits the objects of a start, each once: from the receiver and the arguments along the cells.
+/// Afterwards those that are reached are done, and no other is.
 fn visit(start: &Start, stages: &mut [Stage])
     requires sized { length stages.old ≡ length start.now.objects }
     requires fresh { (o : ℕ) → o < length stages.old → is_unseen (stage_of stages.old o) ≡ true }
-    ensures visits { Visits start.now stages.new }
-    ensures ended { (o : ℕ) → is_waiting (stage_of stages.new o) ≡ false }
+    ensures sized { length stages.new ≡ length start.now.objects }
+    ensures done { (o : ℕ) → o < length start.now.objects → is_done (stage_of stages.new o) ≡ is_reached start.now o }
 {
     find(stages, start.this);
     find_all(stages, start.args.as_slice());
@@ -67,7 +70,7 @@ fn are_done(stages: &[Stage]) -> bool
 }
 
 /// Whether every object of the start is reached from its receiver or an argument.
-pub fn reaches_all(start: &Start) -> bool
+pub(crate) fn reaches_all(start: &Start) -> bool
     requires { length start.now.objects ≤ 12 }
     ensures { IsTrue result ↔ ((o : ℕ) → o < length start.now.objects → Reached start.now o) }
 {

@@ -4,8 +4,7 @@ ghost use Rattle.heap_core.specs.Outcomes.{is_true as is_true_lem, as_flag as as
 ghost use Rattle.heap_core.specs.Eval.{binary};
 ghost use Rattle.heap_core.specs.declared.value.Seen.{Seen};
 
-use heap_core::{Seen, Value};
-use heap_leaves::{flag, negative, operated, opposite};
+use heap_core::{Seen, Value, flag, negative, operated, opposite};
 use taco_unit::Op;
 
 /// The value, where there is one. `Out` where there is none.

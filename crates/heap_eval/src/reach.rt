@@ -1,25 +1,16 @@
-ghost use Rattle.std.specs.Prelude.{◌≡◌, ◌==◌, ◌<◌, ◌≤◌, ℕ, true, false, length, IfNone, IfSome, count_by, pos};
+ghost use Rattle.std.specs.Prelude.{◌≡◌, ◌==◌, ◌<◌, ◌≤◌, ℕ, true, false, length, count_by, pos};
 ghost use Rattle.std.specs.List.{range_with_len};
 ghost use Rattle.heap_core.specs.Heap.{field as field_lem};
 ghost use Rattle.heap_core.specs.Outcomes.{number as number_lem};
 ghost use Rattle.heap_core.specs.Eval.{reached, has as has_lem, size as size_lem};
-ghost use Rattle.heap_core.specs.declared.value.Value.TheVariants.{Obj};
+ghost use Rattle.heap_core.specs.Stages.{is_unseen, is_done as is_done_lem, stage_of};
 ghost use Rattle.heap_eval.specs.Environs.{env_of, IsWithin};
-ghost use Rattle.heap_eval.specs.Stages.{found, found_all, is_unseen, is_waiting, is_done as is_done_lem, stage_of, Visits};
+ghost use Rattle.heap_eval.specs.Stages.{found_in, found_along};
 
 use crate::environment::Environment;
-use heap_core::{Object, Seen, Value};
-use heap_leaves::{field, flag, number};
+use heap_core::visit::{Stage, find, next};
+use heap_core::{Object, Seen, Value, field, flag, number};
 use taco_unit::Unit;
-
-/// How far a visit has come with the object of a number: it was not come upon, it was but its fields
-/// were not yet gone through, or they were.
-#[derive(Clone, Copy, Debug, PartialEq, Eq)]
-enum Stage {
-    Unseen,
-    Waiting,
-    Done,
-}
 
 /// The numbers that an object of a value may have.
 const NUMBERS: usize = 256;
@@ -38,36 +29,21 @@ fn is_done(stages: &[Stage], object: u8) -> bool
     stages[usize::from(object)] == Stage::Done
 }
 
-/// Comes upon what a field holds.
-fn find(stages: &mut [Stage], seen: Seen)
-    ensures { stages.new ≡ found stages.old seen }
+/// Comes upon what an evaluation gives.
+fn find_in(stages: &mut [Stage], seen: Seen)
+    ensures { stages.new ≡ found_in stages.old seen }
 {
-    if let Seen::Is(Value::Obj(object)) = seen {
-        let place = usize::from(object);
-        if place < stages.len() && stages[place] == Stage::Unseen {
-            stages[place] = Stage::Waiting;
-        }
+    if let Seen::Is(value) = seen {
+        find(stages, value);
     }
 }
 
 /// Comes upon what these fields of an object hold.
-fn find_all(unit: &Unit, heap: &[Object], fields: &[u8], object: u8, stages: &mut [Stage])
-    ensures { stages.new ≡ found_all unit.now.classes heap.now object stages.old fields.now }
+fn find_along(unit: &Unit, heap: &[Object], fields: &[u8], object: u8, stages: &mut [Stage])
+    ensures { stages.new ≡ found_along unit.now.classes heap.now object stages.old fields.now }
 {
     for number in fields {
-        find(stages, field(unit, heap, *number, Value::Obj(object)));
-    }
-}
-
-/// The number of an object that waits, if there is one.
-fn next(stages: &[Stage]) -> Option<u8>
-    requires { length stages.now ≡ 256 }
-    ensures none { IfNone result ((o : ℕ) → is_waiting (stage_of stages.now o) ≡ false) }
-    ensures some { IfSome result (λ o. (o < length stages.now) × (is_waiting (stage_of stages.now o) ≡ true)) }
-{
-    match stages.iter().position(|stage| *stage == Stage::Waiting) {
-        Some(place) => Some(place as u8),
-        None => None,
+        find_in(stages, field(unit, heap, *number, Value::Obj(object)));
     }
 }
 
@@ -80,10 +56,10 @@ fn visit(env: Environment<'_>, fields: &[u8], from: Value, stages: &mut [Stage])
     ensures { (o : ℕ) → o < 256 → is_done_lem (stage_of stages.new o) ≡ reached (env_of env.entry) fields.now from o }
 {
     let problem = env.problem;
-    find(stages, Seen::Is(from));
-    while let Some(object) = next(stages) {
-        stages[usize::from(object)] = Stage::Done;
-        find_all(&problem.unit, env.heap, fields, object, stages);
+    find(stages, from);
+    while let Some(place) = next(stages) {
+        stages[place] = Stage::Done;
+        find_along(&problem.unit, env.heap, fields, place as u8, stages);
     }
 }
 

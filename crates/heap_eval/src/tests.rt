@@ -3,12 +3,14 @@ ghost use Rattle.taco_unit.specs.declared.kind.Kind.TheVariants as kind;
 ghost use Rattle.taco_unit.specs.declared.stmt.Stmt.TheVariants.{Block};
 
 use super::*;
-use heap_core::{Object, Problem, Scope, Seen, Value};
+use heap_core::{Object, Problem, Seen, Value};
 use no_memory::NoMemory;
 use sqlite_items::{Boxed, Items};
 use std::alloc::Global;
 use std::test::Fail;
-use taco_unit::{ClassDef, Expr, FieldDef, Kind, MethodDef, Name, Op, Quant, Reach, Stmt, Unit};
+use taco_unit::{
+    ClassDef, Expr, FieldDef, Kind, MethodDef, Name, Op, Quant, Reach, Scope, Stmt, Unit,
+};
 
 /// The fields of class N.
 const V: u8 = 0;

@@ -1,17 +1,15 @@
-ghost use Rattle.std.specs.Prelude.{◌≡◌, IfOk, ◌++◌, ◌∷◌, [], slice_get, true, false};
+ghost use Rattle.std.specs.Prelude.{◌≡◌, IfOk, ◌++◌, ◌∷◌, [], slice_get};
 ghost use Rattle.heap_core.specs.declared.value.Value.TheVariants.{Obj};
 ghost use Rattle.heap_core.specs.Outcomes.{with_value, value_in as value_in_lem};
-ghost use Rattle.heap_core.specs.Heap.{field as field_lem, is_of as is_of_lem};
+ghost use Rattle.heap_core.specs.Heap.{field as field_lem};
 ghost use Rattle.heap_core.specs.Eval.{eval, bind};
 ghost use Rattle.heap_eval.specs.Environs.{env_of, IsWithin, instance_at, quantified_at, range_operator as range_operator_lem};
 
 use crate::combine::{as_flag, combined, joined, negated, opposed, settled, value_in};
 use crate::environment::Environment;
 use crate::reach::{has, size};
-use heap_core::{Object, Seen, Value};
-use heap_leaves::{field, flag, number};
+use heap_core::{Seen, Value, field, flag, is_of, number};
 use no_memory::NoMemory;
-use sqlite_items::at;
 use std::alloc::Global;
 use taco_unit::{Expr, Op, Quant};
 
@@ -30,16 +28,6 @@ fn field_of(env: Environment<'_>, operand: Seen, number: u8) -> Seen
     match operand {
         Seen::Is(value) => field(&problem.unit, env.heap, number, value),
         other => other,
-    }
-}
-
-/// Whether the heap has the object, of this class.
-fn is_of(heap: &[Object], class: u8, object: u8) -> bool
-    ensures { result ≡ is_of_lem heap.now class object }
-{
-    match at(heap, usize::from(object)) {
-        Some(x) => x.class == class,
-        None => false,
     }
 }
 

@@ -1,11 +1,11 @@
 ghost use Rattle.std.specs.Prelude.{◌≡◌, ◌≤◌, length, flat_map, IfOk};
+ghost use Rattle.heap_core.specs.Exec.{memory_of};
 ghost use Rattle.heap_core.specs.Judge.{broken_at as broken_at_lem, numbers_of, judged_end as judged_end_lem};
 ghost use Rattle.heap_replay.specs.Firsts.{first, parts_of, untrue_from};
 
 use crate::clauses::{all_invariants, any_out, count_of, gives_of, invariants_at, is_true};
 use crate::good::{first_missing, lacks_result};
-use heap_core::{Judged, Object, Part, Problem, Seen, Start, Value};
-use heap_leaves::well_posed;
+use heap_core::{Judged, Object, Part, Problem, Seen, Start, Value, well_posed};
 use no_memory::NoMemory;
 use std::alloc::Global;
 

@@ -4,9 +4,8 @@ ghost use Rattle.heap_core.specs.Outcomes.{is_out as is_out_lem, is_true as is_t
 ghost use Rattle.heap_core.specs.Judge.{values_of as values_of_lem, invariants_of as invariants_of_lem, invariants_at as invariants_at_lem, all_invariants as all_invariants_lem, needs_of as needs_of_lem, gives_of as gives_of_lem, invariant_env};
 ghost use Rattle.heap_eval.specs.Environs.{env_of, IsWithin};
 
-use heap_core::{Object, Problem, Seen, Start, Value};
+use heap_core::{Object, Problem, Seen, Start, Value, method_in};
 use heap_eval::{Environment, evaluate};
-use heap_leaves::method_in;
 use no_memory::NoMemory;
 use sqlite_items::{Items, at};
 use std::alloc::Global;

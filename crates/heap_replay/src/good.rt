@@ -5,8 +5,7 @@ ghost use Rattle.heap_core.specs.Judge.{must_be_there as must_be_there_lem, is_m
 ghost use Rattle.heap_replay.specs.Firsts.{first};
 
 use crate::clauses::{all_true, count_of, invariants_at};
-use heap_core::{Object, Problem, Seen, Start, Value};
-use heap_leaves::method_in;
+use heap_core::{Object, Problem, Seen, Start, Value, method_in};
 use no_memory::NoMemory;
 use sqlite_items::at;
 use std::alloc::Global;
@@ -47,7 +46,7 @@ fn is_missing(problem: &Problem, heap: &[Object], object: u8, field: u8) -> bool
     match at(problem.unit.fields.as_slice(), usize::from(field)) {
         Some(d) => {
             must_be_there(d.kind, d.nullable)
-                && gives_null(heap_leaves::field(&problem.unit, heap, field, Value::Obj(object)))
+                && gives_null(heap_core::field(&problem.unit, heap, field, Value::Obj(object)))
         }
         None => false,
     }

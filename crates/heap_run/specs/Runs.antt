@@ -4,7 +4,7 @@ use Rattle.heap_core.specs.declared.value.Value.{Value}
 use Rattle.heap_core.specs.declared.start.Start.{Start}
 use Rattle.heap_core.specs.Posed.{Posed}
 use Rattle.heap_core.specs.Heap.{Heap}
-use Rattle.heap_core.specs.Exec.{Memory, Ends, Gives, Throws, Leaves}
+use Rattle.heap_core.specs.Exec.{Memory, memory_of, Ends, Gives, Throws, Leaves}
 use Rattle.heap_core.specs.Judge.{run_of}
 use Rattle.heap_run.specs.declared.machine.Outcome.{Outcome}
 use Rattle.heap_run.specs.declared.machine.Outcome.TheVariants as outcome
@@ -23,4 +23,4 @@ StaysWithin p before after = length before ≤ p.scope.objects → length after 
 
 -- how a run ends, with the heap that it leaves
 pub record Runs (p : Posed) (s : Start) (r : RunEnd) : Type 0 where
-  pub same : ends_with r.outcome (record { heap = r.heap }) ≡ run_of p s
+  pub same : ends_with r.outcome (memory_of r.heap) ≡ run_of p s

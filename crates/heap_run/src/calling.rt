@@ -6,8 +6,7 @@ ghost use Rattle.heap_run.specs.Machines.{Called, Argued, Entered, Started, Begu
 
 use crate::machine::{Activation, Machine, Outcome, Task, Wait};
 use crate::steps::evaluate_for;
-use heap_core::{Problem, Value};
-use heap_leaves::zero_of;
+use heap_core::{Problem, Value, zero_of};
 use no_memory::NoMemory;
 use sqlite_items::{Items, at};
 use std::alloc::Global;

@@ -7,8 +7,7 @@ use crate::calling::call;
 use crate::machine::{Machine, Outcome, Task, Wait};
 use crate::steps::evaluate_for;
 use crate::tasks::{given, given_in};
-use heap_core::{Problem, Seen, Value};
-use heap_leaves::grow;
+use heap_core::{Problem, Seen, Value, grow};
 use no_memory::NoMemory;
 use std::alloc::Global;
 use taco_unit::Expr;
@@ -40,7 +39,7 @@ pub fn local_at(locals: &[Value], local: u8) -> Option<Value>
 fn literal(problem: &Problem, number: i32) -> Seen
     ensures { result ≡ number_lem problem.now.scope.ints number }
 {
-    heap_leaves::number(problem.scope.ints, i64::from(number))
+    heap_core::number(problem.scope.ints, i64::from(number))
 }
 
 /// One step of the evaluation of an expression of code.

@@ -22,7 +22,8 @@ use Rattle.heap_core.specs.Start.{Fits}
 use Rattle.heap_core.specs.Judge.{judged, Violates}
 use Rattle.canonical_order.specs.declared.tuple.Tuple.{Tuple}
 use Rattle.canonical_order.specs.declared.tuple.Tuple.TheVariants.{Root, Field}
-use Rattle.canonical_order.specs.Tuples.{is_value, gives, occurs}
+use Rattle.heap_core.specs.Outcomes.{is_value, gives}
+use Rattle.canonical_order.specs.Tuples.{occurs}
 use Rattle.canonical_order.specs.Visiting.{visited}
 use Rattle.canonical_order.proofs.Visited.{visited_is_visit}
 use Rattle.heap_symmetry.specs.Kinds.{IsOfKind, breaks}

@@ -23,9 +23,7 @@ use Rattle.heap_core.specs.Heap.{Heap, cell, place_of, put, put_cell, grown, bla
 use Rattle.heap_core.specs.Exec.{Memory, Ends, Gives, Throws, Leaves, Frame, Code, then_with, ends_as, then_test, on_test, as_test, on_object, gives_in, read, with_heap, write, make, combined}
 use Rattle.heap_symmetry.specs.Renaming.{IsNaming, value_as, object_as, seen_as, IsRenamed}
 use Rattle.heap_symmetry.proofs.Evaluated.{operated_as, inside_named}
-use Rattle.canonical_order.proofs.Counting.{slice_get-append_left}
-use Rattle.canonical_order.proofs.NumbersLemmas.{set_at}
-use Rattle.canonical_order.proofs.TableMet.{set_apart}
+use Rattle.heap_core.proofs.Lists.{set_at, set_apart, slice_get-append_left}
 
 -- ## what is changed
 
@@ -45,7 +43,7 @@ frame_as n fr = record { this = value_as n fr.this; locals = map (value_as n) fr
 
 -- ## heaps that are changed
 
-data SameHeaps (k : ℕ) (n : ℕ → ℕ) : Option Heap → Option Heap → Type 0 where
+pub data SameHeaps (k : ℕ) (n : ℕ → ℕ) : Option Heap → Option Heap → Type 0 where
   none : SameHeaps k n None None
   some : (h j : Heap) → IsRenamed n h j → length h ≤ k → SameHeaps k n (Some h) (Some j)
 
@@ -65,7 +63,7 @@ set_renamed {n} {m} naming h j is o x inside = record {
   past = λ q beyond. is.past q (omega (arith, beyond, length-set h o x));
 }
 
-put_same : {k : ℕ} {n m : ℕ → ℕ} → IsNaming n m → (h j : Heap) → IsRenamed n h j → length h ≤ k → (classes : List ClassDef) (f o : ℕ) (v : Value) → SameHeaps k n (put classes h f o v) (put classes j f (n o) (value_as n v))
+pub put_same : {k : ℕ} {n m : ℕ → ℕ} → IsNaming n m → (h j : Heap) → IsRenamed n h j → length h ≤ k → (classes : List ClassDef) (f o : ℕ) (v : Value) → SameHeaps k n (put classes h f o v) (put classes j f (n o) (value_as n v))
 put_same {k} {n} {m} naming h j is few classes f o v = go (slice_get h o) refl (slice_get j (n o)) (is.objects o)
   where
     placed : (x : Object) → o < length h → (i : ℕ) (b : Bool) → SameHeaps k n (cond b (Some (set h o (record x { cells = set x.cells i v }))) None) (cond b (Some (set j (n o) (record x { cells = set (map (value_as n) x.cells) i (value_as n v) }))) None)
@@ -136,7 +134,7 @@ blank_as n u class x is = go (slice_get u.classes class) is
         let e : record { class = class; cells = map (first_value u.fields) d.fields } ≡ x = cc in
         subst (λ z. object_as n z ≡ z) e (ap (λ cs. record { class = class; cells = cs }) (firsts_as n u.fields d.fields))
 
-grown_same : (p : Posed) {n : ℕ → ℕ} (h j : Heap) → IsRenamed n h j → (class : ℕ) → SameHeaps p.scope.objects n (grown p h class) (grown p j class)
+pub grown_same : (p : Posed) {n : ℕ → ℕ} (h j : Heap) → IsRenamed n h j → (class : ℕ) → SameHeaps p.scope.objects n (grown p h class) (grown p j class)
 grown_same p {n} h j is class =
     elim (cases_lt (length h) p.scope.objects) [
       | inl room ↦ rw (lt-ltb (length h) p.scope.objects room, lt-ltb (length j) p.scope.objects (omega (arith, room, is.as_many))) (go room (blank p.unit class) refl)

@@ -22,7 +22,8 @@ use Rattle.heap_core.specs.declared.value.Seen.{Seen}
 use Rattle.heap_core.specs.declared.value.Seen.TheVariants.{Is, Bad, Out}
 use Rattle.heap_core.specs.Outcomes.{number, flag, value_in, with_value, with_flag, as_flag, opposite, negative, operated, in_bits, same, equivalent, on_numbers, is_out, is_bad, is_true, is_object, gives_object}
 use Rattle.heap_core.specs.Heap.{Heap, is_of, field, cell, cell_of, place_of}
-use Rattle.heap_core.specs.Eval.{Env, eval, binary, before, bind, over, instance_of, points, widened, rounds, reached, holds, has, size}
+use Rattle.heap_core.specs.Closure.{Graph, widened, rounds, closure}
+use Rattle.heap_core.specs.Eval.{Env, eval, binary, before, bind, over, instance_of, points, reached, holds, has, size}
 use Rattle.heap_core.proofs.EvalForms.{eval_num, eval_flag, eval_null, eval_this, eval_result, eval_local, eval_bound, eval_read, eval_neg, eval_not, eval_bin, eval_quant, eval_old, eval_has, eval_size, eval_new, eval_call}
 use Rattle.heap_symmetry.specs.Renaming.{IsNaming, value_as, object_as, seen_as, IsRenamed}
 use Rattle.heap_symmetry.proofs.Names.{Within, same_name, any_same, all_same, count_same}
@@ -316,17 +317,18 @@ points_as {n} {m} {a} {b} is (f ∷ fields) p o =
     in
     rw (here, points_as is fields p o) refl
 
-widened_as : {n m : ℕ → ℕ} {a b : Env} → IsRenamedEnv n m a b → (fields : List ℕ) (set set' : ℕ → Bool) → ((o : ℕ) → set' (n o) ≡ set o) → (o : ℕ) → widened b fields set' (n o) ≡ widened a fields set o
-widened_as {n} {m} {a} {b} is fields set set' alike o =
-    let around : list_any (λ p. set' p && points b fields p (n o)) (range_with_len 0 b.objects) ≡ list_any (λ p. set p && points a fields p o) (range_with_len 0 a.objects) =
-    ap (λ k. list_any (λ p. set' p && points b fields p (n o)) (range_with_len 0 k)) is.objects ∙ any_same (within_env is) (λ p. set p && points a fields p o) (λ p. set' p && points b fields p (n o)) (λ p. rw (alike p, points_as is fields p o) refl)
+-- the rounds from a set in a graph, under the new numbers
+widened_as : {n m : ℕ → ℕ} {k : ℕ} → Within k n m → (edge edge' : Graph) → ((p o : ℕ) → edge' (n p) (n o) ≡ edge p o) → (set set' : ℕ → Bool) → ((o : ℕ) → set' (n o) ≡ set o) → (o : ℕ) → widened edge' k set' (n o) ≡ widened edge k set o
+widened_as {n} {m} {k} w edge edge' edges set set' alike o =
+    let around : list_any (λ p. set' p && edge' p (n o)) (range_with_len 0 k) ≡ list_any (λ p. set p && edge p o) (range_with_len 0 k) =
+    any_same w (λ p. set p && edge p o) (λ p. set' p && edge' p (n o)) (λ p. rw (alike p, edges p o) refl)
     in
     rw (alike o, around) refl
 
-rounds_as : {n m : ℕ → ℕ} {a b : Env} → IsRenamedEnv n m a b → (k : ℕ) (fields : List ℕ) (set set' : ℕ → Bool) → ((o : ℕ) → set' (n o) ≡ set o) → (o : ℕ) → rounds k b fields set' (n o) ≡ rounds k a fields set o
-rounds_as is zero fields set set' alike o = alike o
-rounds_as {n} {m} {a} {b} is (suc k) fields set set' alike o =
-    widened_as is fields (rounds k a fields set) (rounds k b fields set') (rounds_as is k fields set set' alike) o
+rounds_as : {n m : ℕ → ℕ} {k : ℕ} → Within k n m → (edge edge' : Graph) → ((p o : ℕ) → edge' (n p) (n o) ≡ edge p o) → (turns : ℕ) (set set' : ℕ → Bool) → ((o : ℕ) → set' (n o) ≡ set o) → (o : ℕ) → rounds turns edge' k set' (n o) ≡ rounds turns edge k set o
+rounds_as w edge edge' edges zero set set' alike o = alike o
+rounds_as {n} {m} {k} w edge edge' edges (suc turns) set set' alike o =
+    widened_as w edge edge' edges (rounds turns edge k set) (rounds turns edge' k set') (rounds_as w edge edge' edges turns set set' alike) o
 
 pub object_named : {n m : ℕ → ℕ} → IsNaming n m → (o : ℕ) (v : Value) → is_object (n o) (value_as n v) ≡ is_object o v
 object_named naming o (Obj p) = same_name naming o p
@@ -336,7 +338,7 @@ object_named naming o (Flag b) = refl
 
 pub reached_as : {n m : ℕ → ℕ} {a b : Env} → IsRenamedEnv n m a b → (fields : List ℕ) (v : Value) (o : ℕ) → reached b fields (value_as n v) (n o) ≡ reached a fields v o
 reached_as {n} {m} {a} {b} is fields v o =
-    ap (λ k. rounds k b fields (λ q. is_object q (value_as n v)) (n o)) is.objects ∙ rounds_as is a.objects fields (λ q. is_object q v) (λ q. is_object q (value_as n v)) (λ q. object_named is.naming q v) o
+    ap (λ k. closure (points b fields) k (λ q. is_object q (value_as n v)) (n o)) is.objects ∙ rounds_as (within_env is) (points a fields) (points b fields) (points_as is fields) a.objects (λ q. is_object q v) (λ q. is_object q (value_as n v)) (λ q. object_named is.naming q v) o
 
 holds_as : (n : ℕ → ℕ) (set set' : ℕ → Bool) → ((o : ℕ) → set' (n o) ≡ set o) → (x : Value) → holds set' (value_as n x) ≡ seen_as n (holds set x)
 holds_as n set set' alike (Obj o) = ap flag (alike o)

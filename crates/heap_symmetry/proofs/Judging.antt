@@ -266,7 +266,7 @@ chosen_alike false false same x x' y y' s t = t
 chosen_alike true false same x x' y y' s t = absurd (cc)
 chosen_alike false true same x x' y y' s t = absurd (cc)
 
-end_alike : (p : Posed) {n nb : ℕ → ℕ} → IsNaming n nb → (s t : Start) → IsRenamedStart n s t → length s.objects ≤ p.scope.objects → (r : Option Value) (m m' : Memory) → SameMemory p.scope.objects n m m' → IsOfKind (judged_end p s r m.heap) (judged_end p t (returned_as n r) m'.heap)
+end_alike : (p : Posed) {n nb : ℕ → ℕ} → IsNaming n nb → (s t : Start) → IsRenamedStart n s t → length s.objects ≤ p.scope.objects → (r : Option Value) (m m' : Memory) → SameMemory p.scope.objects n m m' → IsOfKind (judged_end p s r m) (judged_end p t (returned_as n r) m')
 end_alike p {n} naming s t is few r m m' same =
     let given = gives_as p naming s t is few r m m' same in
     let outs : (list_any is_out (gives_of p s r m.heap) || list_any is_out (all_invariants p m.heap)) ≡ (list_any is_out (gives_of p t (returned_as n r) m'.heap) || list_any is_out (all_invariants p m'.heap)) =

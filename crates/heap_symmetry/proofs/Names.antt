@@ -3,15 +3,11 @@ use Rattle.std.proofs.Common.{◌≡◌, ℕ, zero, suc, ◌+◌, ◌<◌, ◌�
 use Rattle.std.specs.Prelude.{map, filter, count_by}
 use Rattle.std.specs.List.{range_with_len, list_any, list_all, IsDistinct, AllByRecursion}
 use Rattle.std.specs.Cmp.{IsEquivalence}
-use Rattle.std.proofs.lemmas.Bool.{cases_eq, false≢true, eq-eqb, eqb-true, ne_eqb}
+use Rattle.std.proofs.lemmas.Bool.{cases_Bool, cases_eq, false≢true, eq-eqb, eqb-true, ne_eqb}
 use Rattle.std.proofs.lemmas.List.{length-map}
 use Rattle.std.proofs.lemmas.List.Sums.{length-filter}
 use Rattle.std.proofs.lemmas.Map.Made.{length-le_from_is_member}
 use Rattle.heap_symmetry.specs.Renaming.{IsNaming}
-
-pub tested : (b : Bool) → (b ≡ true) ⊎ (b ≡ false)
-tested true = inl refl
-tested false = inr refl
 
 pub same_truth : (a b : Bool) → (a ≡ true → b ≡ true) → (b ≡ true → a ≡ true) → a ≡ b
 same_truth true b f g = sym (f refl)
@@ -46,7 +42,7 @@ any_at t a (suc d) o low high is = elim (cases_eq a o) [
 
 any_some : (t : ℕ → Bool) (a d : ℕ) → list_any t (range_with_len a d) ≡ true → (o : ℕ) × (a ≤ o) × (o < a + d) × (t o ≡ true)
 any_some t a zero is = absurd (false≢true is)
-any_some t a (suc d) is = elim (tested (t a)) [
+any_some t a (suc d) is = elim (cases_Bool (t a)) [
   | inl here ↦ (a, omega arith, omega arith, here)
   | inr not_here ↦
       let rest = any_some t (a + 1) d (rw not_here at is) in
@@ -64,7 +60,7 @@ any_same {k} {n} {m} w t u same =
 
 all_is : (t : ℕ → Bool) (xs : List ℕ) → list_all t xs ≡ not (list_any (λ o. not (t o)) xs)
 all_is t [] = refl
-all_is t (x ∷ xs) = elim (tested (t x)) [
+all_is t (x ∷ xs) = elim (cases_Bool (t x)) [
   | inl is ↦ rw is (all_is t xs)
   | inr is ↦ rw is refl
 ]
@@ -83,7 +79,7 @@ in_filter t a (suc d) q low high is = elim (cases_eq q a) [
       rw e (grind (arith, eq-eqb q a same))
   | inr apart ↦
       let rest = in_filter t (a + 1) d q (omega (arith, low, apart)) (omega (arith, high)) is in
-      elim (tested (t a)) [ inl here ↦ rw here (grind (arith, rest)) | inr not_here ↦ rw not_here rest ]
+      elim (cases_Bool (t a)) [ inl here ↦ rw here (grind (arith, rest)) | inr not_here ↦ rw not_here rest ]
 ]
 
 -- the names of those that pass
@@ -98,7 +94,7 @@ record IsNameOf (n : ℕ → ℕ) (t : ℕ → Bool) (a d q o : ℕ) : Type 0 wh
 
 of_names : (n : ℕ → ℕ) (t : ℕ → Bool) (a d q : ℕ) → list_any (eqb q) (names n t a d) ≡ true → (o : ℕ) × IsNameOf n t a d q o
 of_names n t a zero q is = absurd (false≢true is)
-of_names n t a (suc d) q is = elim (tested (t a)) [
+of_names n t a (suc d) q is = elim (cases_Bool (t a)) [
   | inl here ↦ elim (cases_eq q (n a)) [
     | inl same ↦ (a, record { low = omega arith; high = omega arith; passes = here; named = same })
     | inr apart ↦ further (of_names n t (a + 1) d q (grind (arith, rw here at is, ne_eqb q (n a) apart)))
@@ -112,7 +108,7 @@ of_names n t a (suc d) q is = elim (tested (t a)) [
 names_differ : {n m : ℕ → ℕ} → IsNaming n m → (t : ℕ → Bool) (a d : ℕ) → IsDistinct eqb (names n t a d)
 unfolding IsDistinct
 names_differ naming t a zero = tt
-names_differ {n} {m} naming t a (suc d) = elim (tested (t a)) [
+names_differ {n} {m} naming t a (suc d) = elim (cases_Bool (t a)) [
   | inl here ↦ rw here (
     none (names n t (a + 1) d) (λ is. let o = of_names n t (a + 1) d (n a) is in
         let same : eqb a o.0 ≡ true = sym (same_name naming a o.0) ∙ eq-eqb (n a) (n o.0) o.1.named in
@@ -124,7 +120,7 @@ names_differ {n} {m} naming t a (suc d) = elim (tested (t a)) [
   where
     none : (xs : List ℕ) → (list_any (eqb (n a)) xs ≡ true → ⊥) → AllByRecursion (λ y. eqb (n a) y ≡ false) xs
     none [] never = tt
-    none (x ∷ xs) never = elim (tested (eqb (n a) x)) [
+    none (x ∷ xs) never = elim (cases_Bool (eqb (n a) x)) [
       | inl same ↦ absurd (never (grind (arith, same)))
       | inr apart ↦ (apart, none xs (λ is. never (grind (arith, apart, is))))
     ]

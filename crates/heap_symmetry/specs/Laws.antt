@@ -27,6 +27,17 @@ abbrev pub CanonicalByVisit : Type 0
 CanonicalByVisit =
     (p : Posed) (s : Start) (order : List ℕ) → Fits s p → HoldsEachOnce order (length s.objects) → IsCanonical (renumbered s order) ↔ IsVisit s order
 
+-- exactly one renumbering is canonical: that by the visit
+pub record IsRenumberedOnce (s : Start) : Type 0 where
+  pub order : List ℕ
+  pub each_once : HoldsEachOnce order (length s.objects)
+  pub canonical : IsCanonical (renumbered s order)
+  pub only : (other : List ℕ) → HoldsEachOnce other (length s.objects) → IsCanonical (renumbered s other) → other ≡ order
+
+-- each start that fits has exactly one canonical renumbering
+abbrev pub OneIsCanonical : Type 0
+OneIsCanonical = (p : Posed) (s : Start) → Fits s p → IsRenumberedOnce s
+
 -- a canonical start whose judgement is that a part is broken
 abbrev pub CanonicallyViolable : Posed → Type 0
 CanonicallyViolable p = (s : Start) × (b : Part) × IsCanonical s × Violates p s b

@@ -3,7 +3,7 @@
 //! Each law is the contract of a function with an empty body, so that crates above can cite it.
 #![tactic(auto)]
 
-ghost use Rattle.heap_symmetry.specs.Laws.{RenumberingKeeps, CanonicalByVisit, CanonicalStartsDecide, TuplesArePossible};
+ghost use Rattle.heap_symmetry.specs.Laws.{RenumberingKeeps, CanonicalByVisit, OneIsCanonical, CanonicalStartsDecide, TuplesArePossible};
 
 /// A start that fits, renumbered by any list that holds each object once, fits; its heap is good
 /// exactly where the old one is, and its judgement is of the same kind.
@@ -15,6 +15,11 @@ pub fn renumbering_keeps_the_judgement()
 /// list is its visit.
 pub fn canonical_by_the_visit_alone()
     ensures { CanonicalByVisit }
+{}
+
+/// A start that fits has exactly one canonical renumbering: that by its visit.
+pub fn one_renumbering_is_canonical()
+    ensures { OneIsCanonical }
 {}
 
 /// A method is violable exactly where a canonical start breaks its contract.

@@ -1,5 +1,18 @@
-use declared_names::Many;
 use java_lex::Absent;
+
+/// What a text may have too many of.
+#[derive(Clone, Copy, Debug, PartialEq, Eq)]
+pub enum Many {
+    Classes,
+    Fields,
+    RefFields,
+    Methods,
+    Params,
+    Locals,
+    Clauses,
+    Loops,
+    Quantifiers,
+}
 
 /// Why the bytes of a text stand for no unit. Places are in bytes, counted from 0.
 #[derive(Clone, Copy, Debug, PartialEq, Eq)]

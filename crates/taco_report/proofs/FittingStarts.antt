@@ -111,9 +111,9 @@ arguments_written w heap vs (Some m) narrow are = pointwise_weaker (is_argument 
 pub fitting_text : (p : Posed) (text : List ℕ) (s : Start) → InRange p → Fits s p → text ≡ state_text p s → IsStateText p text s
 fitting_text p text s range fits is =
     record {
-      few = omega (arith, fits.few_objects, range.objects_high);
-      objects = objects_written p.unit p.scope.ints s.objects s.objects range.ints_high fits.objects_whole;
+      few = omega (arith, fits.few_objects, range.scope.objects_high);
+      objects = objects_written p.unit p.scope.ints s.objects s.objects range.scope.ints_high fits.objects_whole;
       receiver = receiver_written s.objects s.this (method_of p) fits.receiver;
-      arguments = arguments_written p.scope.ints s.objects s.args (method_of p) range.ints_high fits.arguments;
+      arguments = arguments_written p.scope.ints s.objects s.args (method_of p) range.scope.ints_high fits.arguments;
       text_is = is;
     }

@@ -2,8 +2,8 @@
 use Rattle.std.specs.Prelude.{ℕ, List, [], ◌++◌, decimal, codes}
 use Rattle.java_lex.specs.declared.spelling.Absent.{Absent}
 use Rattle.java_lex.specs.declared.spelling.Absent.TheVariants as absent
-use Rattle.declared_names.specs.declared.fault.Many.{Many}
-use Rattle.declared_names.specs.declared.fault.Many.TheVariants as many
+use Rattle.refusals.specs.declared.refusal.Many.{Many}
+use Rattle.refusals.specs.declared.refusal.Many.TheVariants as many
 use Rattle.refusals.specs.declared.refusal.Refusal.{Refusal}
 use Rattle.refusals.specs.declared.refusal.Refusal.TheVariants as source
 use Rattle.taco_report.specs.declared.status.Status.{Status}

@@ -1,7 +1,7 @@
 -- The reports of verdicts, and the parts of a contract that can be broken.
 use Rattle.std.specs.Prelude.{ℕ, List, [], ◌++◌, slice_get, decimal, codes}
 use Rattle.std.specs.Option.{option_map_or}
-use Rattle.heap_core.specs.declared.problem.Scope.{Scope}
+use Rattle.taco_unit.specs.declared.scope.Scope.{Scope}
 use Rattle.heap_core.specs.declared.start.Start.{Start}
 use Rattle.heap_core.specs.declared.judged.Part.{Part}
 use Rattle.heap_core.specs.declared.judged.Part.TheVariants as part

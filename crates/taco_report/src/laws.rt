@@ -1,7 +1,6 @@
 ghost use Rattle.taco_report.specs.States.{OneStart};
 
-use heap_core::Problem;
-use heap_leaves::well_posed;
+use heap_core::{Problem, well_posed};
 
 /// A law: a start has one text, which is `state_text` of it, and a text says one start at most. So
 /// what `read_state` answers is the only start of the text. The call does nothing.

@@ -1,8 +1,9 @@
 //! The statuses with which the program ends, and the texts that it prints and reads of problems,
-//! starts, verdicts, replays and refusals.
+//! starts, verdicts, replays, formulas and refusals.
 #![tactic(auto)]
 
 mod fault;
+mod formula;
 mod laws;
 mod line_reader;
 mod parts;
@@ -16,6 +17,9 @@ mod value_reader;
 mod writing;
 
 pub use fault::StateFault;
+pub use formula::{
+    badline_text, refuted_text, satisfiable_text, unknown_text, unsatisfiable_text, valid_text,
+};
 pub use laws::a_state_has_one_text_and_a_text_one_start;
 pub use refusal::refusal_text;
 pub use replay::replay_text;

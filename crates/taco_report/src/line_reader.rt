@@ -6,8 +6,7 @@ ghost use Rattle.taco_report.specs.States.{NoLine, ends, is_cell, is_given, is_l
 
 use crate::state::{field_name, fields_in};
 use crate::value_reader::{behind, number_below, object_of, value, word_of};
-use heap_core::{Object, Problem, Value};
-use heap_leaves::{method_in, well_posed};
+use heap_core::{Object, Problem, Value, method_in, well_posed};
 use no_memory::NoMemory;
 use sqlite_items::Items;
 use std::alloc::Global;

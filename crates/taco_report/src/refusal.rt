@@ -4,10 +4,9 @@ ghost use Rattle.taco_report.specs.RefusalLines.{absent_text, many_text, placed,
 
 use crate::status::Status;
 use crate::writing::{add, add_number};
-use declared_names::Many;
 use java_lex::Absent;
 use no_memory::NoMemory;
-use refusals::Refusal;
+use refusals::{Many, Refusal};
 use std::alloc::Global;
 
 /// The word of what the profile has not.

@@ -4,9 +4,10 @@ ghost use Rattle.taco_report.specs.Reports.{counts_line, holds_report, no_tuples
 use crate::parts::add_broken;
 use crate::state::add_state;
 use crate::writing::add;
-use heap_core::{Part, Problem, Scope, Start};
+use heap_core::{Part, Problem, Start};
 use no_memory::NoMemory;
 use std::alloc::Global;
+use taco_unit::Scope;
 
 /// The line of the scope.
 fn scope_text(alloc: Global, scope: Scope) -> Result<String, NoMemory>

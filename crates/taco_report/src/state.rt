@@ -4,8 +4,7 @@ ghost use Rattle.taco_report.specs.Texts.{argument_line, cell_text, field_text, 
 
 use crate::parts::add_class;
 use crate::writing::{add, add_number, add_object, add_value};
-use heap_core::{Object, Problem, Start, Value};
-use heap_leaves::method_in;
+use heap_core::{Object, Problem, Start, Value, method_in};
 use no_memory::NoMemory;
 use std::alloc::Global;
 use taco_unit::ParamDef;

@@ -12,8 +12,7 @@ ghost use Rattle.taco_report.specs.States.{BlamesState, IsReadAs, IsStateText, N
 use crate::fault::StateFault;
 use crate::line_reader::{argument_line, count_line, object_line, receiver_line};
 use crate::state::params_in;
-use heap_core::{Object, Problem, Start, Value};
-use heap_leaves::well_posed;
+use heap_core::{Object, Problem, Start, Value, well_posed};
 use no_memory::NoMemory;
 use sqlite_items::Items;
 use std::alloc::Global;

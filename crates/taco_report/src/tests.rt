@@ -3,16 +3,15 @@ ghost use Rattle.taco_unit.specs.declared.kind.Kind.TheVariants as kind;
 ghost use Rattle.taco_unit.specs.declared.stmt.Stmt.TheVariants.{Block};
 
 use super::*;
-use declared_names::Many;
-use heap_core::{Judged, Object, Part, Problem, Scope, Value};
+use heap_core::{Judged, Object, Part, Problem, Value};
 use heap_replay::{Outcome, Replayed};
 use java_lex::Absent;
 use no_memory::NoMemory;
-use refusals::Refusal;
+use refusals::{Many, Refusal};
 use sqlite_items::Items;
 use std::alloc::Global;
 use std::test::Fail;
-use taco_unit::{ClassDef, FieldDef, Kind, MethodDef, Name, ParamDef, Stmt, Unit};
+use taco_unit::{ClassDef, FieldDef, Kind, MethodDef, Name, ParamDef, Scope, Stmt, Unit};
 
 fn one_class(alloc: Global) -> Result<Items<ClassDef>, NoMemory>
     ensures { IfOk result (λ l. l ≡ record { name = 80 ∷ []; fields = 0 ∷ 1 ∷ []; methods = 0 ∷ []; invariants = [] } ∷ []) }

@@ -1,7 +1,7 @@
 -- From the check of a problem to the table.
 use Rattle.std.proofs.Common.{◌≡◌, ◌≢◌, ℕ, List, Option, Some, None, IfSome, refl, sym, ap, ◌∙◌, subst}
 use Rattle.std.specs.Prelude.{Result, Ok, Err, IfOk}
-use Rattle.heap_core.specs.declared.problem.Scope.{Scope}
+use Rattle.taco_unit.specs.declared.scope.Scope.{Scope}
 use Rattle.heap_core.specs.Posed.{Posed}
 use Rattle.no_memory.specs.declared.NoMemory.{NoMemory}
 use Rattle.taco_io.specs.Shelf.{Shelf, Stays, IsCalm}

@@ -1,5 +1,4 @@
 pub mod Served
-pub mod Texts
 pub mod TextEnds
 pub mod ProofCommand
 pub mod SatCommand

@@ -9,7 +9,7 @@ use Rattle.derivation.specs.Step.{Step}
 use Rattle.derivation.specs.declared.fault.TextFault.TheVariants as fault
 use Rattle.taco_report.specs.declared.status.Status.{Status}
 use Rattle.taco_report.specs.declared.status.Status.TheVariants as status
-use Rattle.taco_run.specs.Texts.{refuted_line, valid_line, badline_line}
+use Rattle.taco_report.specs.FormulaTexts.{refuted_line, valid_line, badline_line}
 
 -- the most bytes of the text of a formula, and of that of a log
 abbrev pub text_limit : ℕ

@@ -1,5 +1,5 @@
 -- What the command `sat` answers about the text of a formula.
-use Rattle.std.specs.Prelude.{◌≡◌, ℕ, Bool, ◌⊎◌, List, [], length, Option, IfSome, codes}
+use Rattle.std.specs.Prelude.{◌≡◌, ℕ, Bool, ◌⊎◌, List, [], length, Option, IfSome}
 use Rattle.cnf_core.specs.Clauses.{Clauses}
 use Rattle.cnf_core.specs.Truth.{assigned, Satisfies, IsUnsatisfiable}
 use Rattle.derivation.specs.Logs.{Refutes, Spends}
@@ -9,8 +9,7 @@ use Rattle.taco_run.specs.declared.answer.Evidence.{Evidence}
 use Rattle.taco_report.specs.declared.status.Status.{Status}
 use Rattle.taco_report.specs.declared.status.Status.TheVariants as status
 use Rattle.taco_run.specs.ProofCommand.{IsFormula}
-use Rattle.taco_report.specs.Texts.{line}
-use Rattle.taco_run.specs.Texts.{satisfiable_text, unsatisfiable_text}
+use Rattle.taco_report.specs.FormulaTexts.{satisfiable_text, unsatisfiable_text, unknown_text}
 
 -- Values satisfy the formula, one for each variable, and they are told.
 pub record IsSatisfied (formula : Clauses) (output : List ℕ) : Type 0 where
@@ -28,7 +27,7 @@ pub record IsRefutation (formula : Clauses) (steps : List Step) (output : List �
 -- The budget is spent on the lines of the log, and it is told that nothing is known.
 pub record IsSpent (formula : Clauses) (steps : List Step) (budget : ℕ) (output : List ℕ) : Type 0 where
   pub spends : Spends formula steps budget
-  pub told : output ≡ line (codes "s UNKNOWN")
+  pub told : output ≡ unknown_text
 
 -- the verdict of a search through a formula, with its log
 abbrev pub TellsSearch : Clauses → List Step → ℕ → Status → List ℕ → Type 0

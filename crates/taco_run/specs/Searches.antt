@@ -1,5 +1,5 @@
 -- What a search through a formula comes to.
-use Rattle.std.specs.Prelude.{◌≡◌, ℕ, List, [], Some, codes}
+use Rattle.std.specs.Prelude.{◌≡◌, ℕ, List, [], Some}
 use Rattle.cnf_core.specs.Clauses.{Clauses}
 use Rattle.derivation.specs.Step.{Step}
 use Rattle.sat_solver.specs.Answers.{IsKept}
@@ -11,14 +11,13 @@ use Rattle.taco_run.specs.declared.outcome.Outcome.{Outcome}
 use Rattle.taco_run.specs.declared.outcome.Reply.{Reply}
 use Rattle.taco_run.specs.SatCommand.{TellsSearch}
 use Rattle.taco_run.specs.Steps.{IsOutcome}
-use Rattle.taco_report.specs.Texts.{line}
-use Rattle.taco_run.specs.Texts.{satisfiable_text, unsatisfiable_text}
+use Rattle.taco_report.specs.FormulaTexts.{satisfiable_text, unsatisfiable_text, unknown_text}
 
 -- the outcome that an answer of the solver comes to
 abbrev pub TellsAnswer : SatAnswer → List Step → Outcome → Type 0
 TellsAnswer (Satisfied values) log o = IsOutcome status.Done (satisfiable_text values.items) o
 TellsAnswer Refuted log o = IsOutcome status.Done (unsatisfiable_text log) o
-TellsAnswer Spent log o = IsOutcome status.Unknown (line (codes "s UNKNOWN")) o
+TellsAnswer Spent log o = IsOutcome status.Unknown unknown_text o
 
 -- The reply is the verdict of a search through this formula, and has its evidence.
 pub record IsVerdict (formula : Clauses) (budget : ℕ) (reply : Reply) : Type 0 where

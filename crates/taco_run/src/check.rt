@@ -1,6 +1,6 @@
 ghost use Rattle.std.specs.Prelude.{ℕ, Some, None, IfOk};
 ghost use Rattle.boolean_trial.specs.Plain.{IsPlain};
-ghost use Rattle.taco_words.specs.Limits.{IsScope};
+ghost use Rattle.taco_unit.specs.Scopes.{IsScope};
 ghost use Rattle.taco_words.specs.declared.request.Request.TheVariants as request;
 ghost use Rattle.taco_run.specs.Decided.{Checks, Tells};
 ghost use Rattle.taco_run.specs.Steps.{IsAnswered};

@@ -12,7 +12,6 @@ mod proof_command;
 mod reading;
 mod replay_command;
 mod sat_command;
-mod texts;
 
 pub use answer::{Answer, Evidence};
 pub use call::{run, run_plain};

@@ -1,11 +1,9 @@
 ghost use Rattle.std.specs.Prelude.{◌≡◌, None, IfOk};
 ghost use Rattle.taco_report.specs.Statuses.{IsRefusal};
 ghost use Rattle.taco_run.specs.Steps.{EndsText, IsOrNoMemory, IsOutcome, IsSilent};
-ghost use Rattle.taco_report.specs.Texts.{line};
 ghost use Rattle.taco_report.specs.RefusalLines.{refusal_line};
 
 use crate::answer::Evidence;
-use crate::texts::word_line;
 use derivation::TextFault;
 use no_memory::NoMemory;
 use std::alloc::Global;
@@ -53,14 +51,6 @@ pub(crate) fn or_no_memory(alloc: Global, outcome: Result<Outcome, NoMemory>) ->
         Ok(outcome) => outcome,
         Err(NoMemory) => silent(alloc, Status::NoMemory),
     }
-}
-
-/// An outcome with a line of these words.
-pub(crate) fn worded(alloc: Global, status: Status, words: &str) -> Result<Outcome, NoMemory>
-    ensures { IfOk result (IsOutcome status (line words.now)) }
-{
-    let output = word_line(alloc, words)?;
-    Ok(Outcome { status, output })
 }
 
 /// A refusal, with its line.

@@ -1,6 +1,6 @@
 ghost use Rattle.std.specs.Prelude.{◌≤◌, length};
 ghost use Rattle.taco_io.specs.Shelf.{Stays};
-ghost use Rattle.taco_words.specs.Limits.{IsScope};
+ghost use Rattle.taco_unit.specs.Scopes.{IsScope};
 ghost use Rattle.taco_run.specs.Problems.{java_limit, FetchesProblem, PosedIn, Poses};
 ghost use Rattle.taco_run.specs.Steps.{EndsUnposed};
 

@@ -3,17 +3,16 @@ ghost use Rattle.taco_io.specs.Shelf.{Stays};
 ghost use Rattle.taco_words.specs.declared.request.Request.TheVariants as request;
 ghost use Rattle.taco_run.specs.ProofCommand.{text_limit, IsFormula, IsLog, IsNoFormula, IsNoLog, TellsLog};
 ghost use Rattle.taco_run.specs.Steps.{Fetches, IsAnswered, TakesFor};
-ghost use Rattle.taco_run.specs.Texts.{refuted_line, valid_line};
+ghost use Rattle.taco_report.specs.FormulaTexts.{refuted_line, valid_line};
 
 use crate::outcome::{Outcome, TextEnd, ended, or_no_memory};
 use crate::reading::read_file;
-use crate::texts::{badline, refuted, valid};
 use cnf_core::Cnf;
 use derivation::{CheckFault, Checked, Log, check, read_cnf, read_log};
 use no_memory::NoMemory;
 use std::alloc::Global;
 use taco_io::Files;
-use taco_report::Status;
+use taco_report::{Status, badline_text, refuted_text, valid_text};
 use taco_words::Text;
 
 /// The most bytes of the text of a formula, and of that of a log.
@@ -64,9 +63,9 @@ fn accepted(alloc: Global, checked: Checked) -> Result<Vec<u8>, NoMemory>
     ensures { IfOk result (λ text. text.items ≡ (if checked.refuted then refuted_line checked.lines else valid_line checked.lines)) }
 {
     if checked.refuted {
-        refuted(alloc, checked.lines)
+        refuted_text(alloc, checked.lines)
     } else {
-        valid(alloc, checked.lines)
+        valid_text(alloc, checked.lines)
     }
 }
 
@@ -81,7 +80,7 @@ fn judged(alloc: Global, formula: &Cnf, log: &Log) -> Result<Outcome, NoMemory>
         }),
         Err(CheckFault::BadLine { n }) => Ok(Outcome {
             status: Status::Broken,
-            output: badline(alloc, n)?,
+            output: badline_text(alloc, n)?,
         }),
         Err(CheckFault::NoMemory) => Err(NoMemory),
     }

@@ -1,6 +1,6 @@
 ghost use Rattle.std.specs.Prelude.{◌≡◌, ◌≤◌, length, Some, None, IfOk};
 ghost use Rattle.heap_core.specs.Start.{Fits};
-ghost use Rattle.taco_words.specs.Limits.{IsScope};
+ghost use Rattle.taco_unit.specs.Scopes.{IsScope};
 ghost use Rattle.taco_words.specs.declared.request.Request.TheVariants as request;
 ghost use Rattle.taco_run.specs.ReplayCommand.{state_limit, status_of as status_of_lem};
 ghost use Rattle.taco_run.specs.Replaying.{IsShown, ReplaysText};

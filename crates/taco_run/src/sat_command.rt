@@ -4,16 +4,15 @@ ghost use Rattle.taco_run.specs.Searches.{IsVerdict, TellsAnswer};
 ghost use Rattle.taco_run.specs.Steps.{IsAnswered};
 
 use crate::answer::Evidence;
-use crate::outcome::{Outcome, Reply, ended, plain, silent, worded};
+use crate::outcome::{Outcome, Reply, ended, plain, silent};
 use crate::proof_command::read_formula;
-use crate::texts::{satisfiable, unsatisfiable};
 use cnf_core::Cnf;
 use derivation::Log;
 use no_memory::NoMemory;
 use sat_solver::{SatAnswer, Solved, Solver};
 use std::alloc::Global;
 use taco_io::Files;
-use taco_report::Status;
+use taco_report::{Status, satisfiable_text, unknown_text, unsatisfiable_text};
 use taco_words::Text;
 
 /// What the answer of a search comes to.
@@ -23,13 +22,16 @@ fn told(alloc: Global, answer: &SatAnswer, log: &Log) -> Result<Outcome, NoMemor
     match answer {
         SatAnswer::Satisfied(values) => Ok(Outcome {
             status: Status::Done,
-            output: satisfiable(alloc, values.as_slice())?,
+            output: satisfiable_text(alloc, values.as_slice())?,
         }),
         SatAnswer::Refuted => Ok(Outcome {
             status: Status::Done,
-            output: unsatisfiable(alloc, log)?,
+            output: unsatisfiable_text(alloc, log)?,
         }),
-        SatAnswer::Spent => worded(alloc, Status::Unknown, "s UNKNOWN"),
+        SatAnswer::Spent => Ok(Outcome {
+            status: Status::Unknown,
+            output: unknown_text(alloc)?,
+        }),
     }
 }
 

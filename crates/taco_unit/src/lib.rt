@@ -5,6 +5,7 @@
 mod expr;
 mod kind;
 mod name;
+mod scope;
 mod stmt;
 #[cfg(test)]
 mod tests;
@@ -13,5 +14,6 @@ mod unit;
 pub use expr::{Call, Expr, Op, Quant, Reach};
 pub use kind::Kind;
 pub use name::Name;
+pub use scope::{Plan, Scope};
 pub use stmt::Stmt;
 pub use unit::{ClassDef, Clause, FieldDef, MethodDef, ParamDef, Unit};

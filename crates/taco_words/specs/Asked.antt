@@ -4,8 +4,8 @@
 -- say: its faults, a demand for help among them, and the value of each word and option. Numbers and lists are read
 -- here. A number that the words do not give has its usual value, also where the command has no such option.
 use Rattle.std.specs.Prelude.{ℕ, List, [], ◌∷◌, Option, Some, None, option_map, codes}
-use Rattle.heap_core.specs.declared.problem.Scope.{Scope}
-use Rattle.heap_core.specs.declared.problem.Plan.{Plan}
+use Rattle.taco_unit.specs.declared.scope.Scope.{Scope}
+use Rattle.taco_unit.specs.declared.scope.Plan.{Plan}
 use Rattle.clap.specs.Words.{Row, Text, first_of}
 use Rattle.taco_words.specs.declared.request.Job.{Job}
 use Rattle.taco_words.specs.declared.request.Request.{Request}
@@ -15,7 +15,8 @@ use Rattle.taco_words.specs.declared.commands.Task.{Task}
 use Rattle.taco_words.specs.declared.commands.Task.TheVariants as task
 use Rattle.taco_words.specs.Commands.{task_named, app_for}
 use Rattle.taco_words.specs.Parsing.{taken}
-use Rattle.taco_words.specs.Limits.{most_conflicts, most_stress}
+use Rattle.taco_unit.specs.Scopes.{most_conflicts}
+use Rattle.taco_words.specs.Limits.{most_stress}
 
 -- the number of an option, by its range and its usual value
 abbrev pub number_of : Text → ℕ → ℕ → ℕ → List Row → Option ℕ

@@ -1,35 +1,15 @@
 -- The ranges of the numbers of a request.
 use Rattle.std.specs.Prelude.{ℕ, ◌<◌, ◌≤◌, List, length, IfSome}
 use Rattle.std.specs.List.{All}
-use Rattle.heap_core.specs.declared.problem.Scope.{Scope}
-use Rattle.heap_core.specs.declared.problem.Plan.{Plan}
+use Rattle.taco_unit.specs.Scopes.{IsScope, IsPlan, most_conflicts}
 use Rattle.taco_words.specs.declared.request.Job.{Job}
 use Rattle.taco_words.specs.declared.request.Request.{Request}
 use Rattle.taco_words.specs.declared.request.Request.TheVariants as request
 use Rattle.taco_words.specs.Numbers.{most_entries}
 
--- the greatest budget of a search
-abbrev pub most_conflicts : ℕ
-most_conflicts = 1000000000
-
 -- the greatest number of a unit that is made
 abbrev pub most_stress : ℕ
 most_stress = 65536
-
-pub record IsScope (s : Scope) : Type 0 where
-  pub objects_low : 1 ≤ s.objects
-  pub objects_high : s.objects ≤ 12
-  pub ints_low : 2 ≤ s.ints
-  pub ints_high : s.ints ≤ 16
-  pub loops_high : s.loops ≤ 12
-  pub calls_high : s.calls ≤ 4
-
-pub record IsPlan (p : Plan) : Type 0 where
-  pub workers_low : 1 ≤ p.workers
-  pub workers_high : p.workers ≤ 16
-  pub rounds_low : 1 ≤ p.rounds
-  pub rounds_high : p.rounds ≤ 8
-  pub budget_high : p.budget ≤ most_conflicts
 
 pub record IsJob (job : Job) : Type 0 where
   pub scope : IsScope job.scope

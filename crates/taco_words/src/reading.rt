@@ -2,7 +2,8 @@
 ghost use Rattle.std.specs.Prelude.{◌≡◌, ◌≤◌, codes, IfOk, IfSome};
 ghost use Rattle.clap.specs.Words.{first_of, found_of, rows_of};
 ghost use Rattle.taco_words.specs.Asked.{bounds_of as bounds_of_lem, budget_of as budget_of_lem, check_of as check_of_lem, job_of as job_of_lem, number_of as number_of_lem, plan_of as plan_of_lem, proof_of as proof_of_lem, replay_of as replay_of_lem, request_for as request_for_lem, sat_of as sat_of_lem, schedule_in, scope_of as scope_of_lem, stress_of as stress_of_lem};
-ghost use Rattle.taco_words.specs.Limits.{IsJob, IsPlan, IsSchedule, IsScope, IsWithin, most_conflicts};
+ghost use Rattle.taco_unit.specs.Scopes.{IsPlan, IsScope, most_conflicts};
+ghost use Rattle.taco_words.specs.Limits.{IsJob, IsSchedule, IsWithin};
 ghost use Rattle.taco_words.specs.Parsing.{Gives};
 
 use crate::commands::Task;
@@ -11,9 +12,8 @@ use crate::number::number_up_to;
 use crate::parse::value;
 use crate::request::{Job, Request, RequestFault, Schedule, Text};
 use clap::ArgMatches;
-use heap_core::{Plan, Scope};
 use std::alloc::Global;
-use taco_unit::Name;
+use taco_unit::{Name, Plan, Scope};
 
 /// The greatest budget of a search.
 const MOST_CONFLICTS: u64 = 1_000_000_000;

@@ -1,10 +1,9 @@
 ghost use Rattle.std.specs.Prelude.{◌≡◌, IfOk};
 
-use heap_core::{Plan, Scope};
 use no_memory::NoMemory;
 use std::alloc::{AllocError, AllocFailed, Global};
 use std::marker::Model;
-use taco_unit::Name;
+use taco_unit::{Name, Plan, Scope};
 use thiserror::Error;
 
 /// A word of the command line: contracts see it as the list of its bytes.

@@ -1,2 +1,4 @@
 pub mod Words
 pub mod Numbered
+pub mod Occurring
+pub mod Passing

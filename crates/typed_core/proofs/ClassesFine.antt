@@ -11,7 +11,7 @@ use Rattle.taco_unit.specs.Words.{is_word}
 use Rattle.taco_unit.specs.Kinds.{is_class_kind}
 use Rattle.taco_unit.specs.Well.{around_invariant, are_conditions}
 use Rattle.declared_names.specs.declared.fault.Fault.{Fault}
-use Rattle.declared_names.specs.declared.fault.Many.TheVariants as many
+use Rattle.refusals.specs.declared.refusal.Many.TheVariants as many
 use Rattle.declared_names.specs.declared.fault.Cause.TheVariants.{Unknown, Twice, TooMany}
 use Rattle.declared_names.specs.declared.world.World.{World}
 use Rattle.declared_names.specs.Faults.{check}

@@ -6,7 +6,7 @@ use Rattle.java_tree.specs.Trees.{Expr as Tree, Clause as ClauseTree, needs, giv
 use Rattle.taco_unit.specs.declared.unit.Clause.{Clause}
 use Rattle.taco_unit.specs.Kinds.{Around, is_condition}
 use Rattle.taco_unit.specs.Well.{are_conditions}
-use Rattle.declared_names.specs.declared.fault.Many.TheVariants as many
+use Rattle.refusals.specs.declared.refusal.Many.TheVariants as many
 use Rattle.declared_names.specs.declared.fault.Cause.TheVariants.{TooMany}
 use Rattle.declared_names.specs.declared.sort.Sort.TheVariants.{Flag}
 use Rattle.typed_forms.specs.declared.typed.Typed.{Typed}

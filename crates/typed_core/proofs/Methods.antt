@@ -17,7 +17,7 @@ use Rattle.taco_unit.specs.Words.{is_word}
 use Rattle.taco_unit.specs.Kinds.{Around, is_kind_of, is_condition}
 use Rattle.taco_unit.specs.Well.{IsWellMethod, around_invariant, around_method, receiver_of}
 use Rattle.declared_names.specs.declared.fault.Fault.{Fault}
-use Rattle.declared_names.specs.declared.fault.Many.TheVariants as many
+use Rattle.refusals.specs.declared.refusal.Many.TheVariants as many
 use Rattle.declared_names.specs.declared.fault.Cause.TheVariants.{Unknown, Twice, TooMany}
 use Rattle.declared_names.specs.declared.sort.Sort.{Sort}
 use Rattle.declared_names.specs.declared.world.World.{World}

@@ -12,7 +12,7 @@ use Rattle.taco_unit.specs.declared.unit.MethodDef.{MethodDef}
 use Rattle.taco_unit.specs.Parts.{Parts}
 use Rattle.taco_unit.specs.Kinds.{is_condition}
 use Rattle.taco_unit.specs.Well.{IsWellMethod, around_invariant, are_conditions}
-use Rattle.declared_names.specs.declared.fault.Many.TheVariants as many
+use Rattle.refusals.specs.declared.refusal.Many.TheVariants as many
 use Rattle.declared_names.specs.declared.fault.Cause.TheVariants.{TooMany}
 use Rattle.declared_names.specs.declared.world.World.{World}
 use Rattle.declared_names.specs.declared.world.Here.{Here}

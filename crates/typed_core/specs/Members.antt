@@ -13,7 +13,7 @@ use Rattle.taco_unit.specs.declared.unit.FieldDef.{FieldDef}
 use Rattle.taco_unit.specs.declared.unit.MethodDef.{MethodDef}
 use Rattle.taco_unit.specs.Parts.{Parts}
 use Rattle.declared_names.specs.declared.fault.Fault.{Fault}
-use Rattle.declared_names.specs.declared.fault.Many.TheVariants as many
+use Rattle.refusals.specs.declared.refusal.Many.TheVariants as many
 use Rattle.declared_names.specs.declared.fault.Cause.TheVariants.{Twice, TooMany}
 use Rattle.declared_names.specs.declared.sort.Sort.{Sort}
 use Rattle.declared_names.specs.declared.sort.Sort.TheVariants.{Flag}

@@ -5,9 +5,10 @@ ghost use Rattle.declared_names.specs.Seen.{told, on, on_two, Stands};
 ghost use Rattle.typed_core.specs.Members.{class_faults, no_counts, nothing_built, seen_class, seen_classes, seen_text, with_class as with_class_lem, counted_parts, fresh_class};
 
 use crate::members::{Built, ClassPart, Counts, Members, all_members, is_first};
-use declared_names::{Cause, Fault, Many, World, beside, earlier, pair, unless};
+use declared_names::{Cause, Fault, World, beside, earlier, pair, unless};
 use java_tree::{ClassTree, Tree};
 use no_memory::NoMemory;
+use refusals::Many;
 use sqlite_items::Items;
 use std::alloc::Global;
 use taco_unit::Name;

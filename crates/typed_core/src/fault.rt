@@ -1,8 +1,9 @@
 ghost use Rattle.std.specs.Prelude.{◌≡◌};
 ghost use Rattle.typed_core.specs.Resolved.{name_fault as name_fault_lem};
 
-use declared_names::{Cause, Fault, Many};
+use declared_names::{Cause, Fault};
 use no_memory::NoMemory;
+use refusals::Many;
 use thiserror::Error;
 
 /// Why a tree stands for no unit. A place is counted in bytes, from 0.

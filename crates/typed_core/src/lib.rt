@@ -11,6 +11,5 @@ mod resolution;
 mod tests;
 mod unit;
 
-pub use declared_names::Many;
 pub use fault::NameFault;
 pub use resolution::resolve;

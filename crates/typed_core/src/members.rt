@@ -13,11 +13,12 @@ ghost use Rattle.typed_statements.specs.Statements.{seen_body};
 ghost use Rattle.java_tree.specs.Trees.{field as part_field};
 
 use declared_names::{
-    Cause, Fault, FieldKnown, Form, Here, Many, MethodKnown, ParamKnown, ResultKnown, Sort, World,
+    Cause, Fault, FieldKnown, Form, Here, MethodKnown, ParamKnown, ResultKnown, Sort, World,
     beside, earlier, pair, unless,
 };
 use java_tree::{ClassTree, Ident, JmlTree, Member, MethodTree, Modifier, SpecTree, TypeTree};
 use no_memory::NoMemory;
+use refusals::Many;
 use sqlite_items::Items;
 use std::alloc::Global;
 use taco_unit::{Clause, FieldDef, Kind, MethodDef, Name, ParamDef, Stmt};

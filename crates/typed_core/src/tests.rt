@@ -4,11 +4,12 @@ use crate::pieces::{
     modified, modifier, name, none, nothing, null, number, of_class, old, on_if, one, param,
     reaches, read, required, run, set, step, taking, this, unreceived, yes,
 };
-use crate::{Many, NameFault, resolve};
+use crate::{NameFault, resolve};
 use java_tree::{
     ClassTree, DeclTree, Ident, JavaNode, JmlNode, Member, ModWord, ParamTree, Sign, SpecTree,
     StmtTree, Tree, TypeTree,
 };
+use refusals::Many;
 use std::alloc::Global;
 use std::test::Fail;
 use taco_unit::{Expr, Kind, MethodDef, Stmt, Unit};

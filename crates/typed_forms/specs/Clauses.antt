@@ -7,7 +7,7 @@ use Rattle.taco_unit.specs.declared.expr.Expr.TheVariants as e
 use Rattle.taco_unit.specs.declared.expr.Quant.{Quant, roll-Quant}
 use Rattle.taco_unit.specs.declared.expr.Reach.{Reach, roll-Reach}
 use Rattle.declared_names.specs.declared.fault.Fault.{Fault}
-use Rattle.declared_names.specs.declared.fault.Many.TheVariants.{Quantifiers}
+use Rattle.refusals.specs.declared.refusal.Many.TheVariants.{Quantifiers}
 use Rattle.declared_names.specs.declared.fault.Cause.TheVariants.{Unknown, Twice, Kinds, TooMany}
 use Rattle.declared_names.specs.declared.sort.Sort.{Sort}
 use Rattle.declared_names.specs.declared.sort.Sort.TheVariants.{Loose, Int, Flag, Object}

@@ -8,11 +8,12 @@ ghost use Rattle.typed_forms.specs.Clauses.{class_sort as class_sort_lem, has_of
 use crate::operators::{wanted, wants};
 use crate::typed::{Typed, byte, make_typed};
 use declared_names::{
-    Cause, Declared, Fault, Form, Here, Many, Slot, Sort, World, class_place, declared_slot,
-    earlier, field_slot, is_object, local_slot, pair, unless,
+    Cause, Declared, Fault, Form, Here, Slot, Sort, World, class_place, declared_slot, earlier,
+    field_slot, is_object, local_slot, pair, unless,
 };
 use java_tree::{Ident, ReachTree};
 use no_memory::NoMemory;
+use refusals::Many;
 use sqlite_items::{Boxed, Items};
 use std::alloc::Global;
 use taco_unit::{Expr, Name, Quant, Reach};

@@ -13,7 +13,7 @@ use Rattle.taco_unit.specs.Kinds.{Around, Sort as UnitSort, Of, suits, where_, s
 use Rattle.taco_unit.proofs.KindForms.{sort_num, sort_flag, sort_null, sort_this, sort_result, sort_bound, sort_new, sort_old, sort_quant, sort_has, sort_size, reach_form, sort_of_reach}
 use Rattle.declared_names.specs.declared.fault.Fault.{Fault}
 use Rattle.declared_names.specs.declared.fault.Cause.TheVariants.{Unknown, Kinds, Twice, TooMany}
-use Rattle.declared_names.specs.declared.fault.Many.TheVariants.{Quantifiers}
+use Rattle.refusals.specs.declared.refusal.Many.TheVariants.{Quantifiers}
 use Rattle.declared_names.specs.declared.sort.Sort.{Sort}
 use Rattle.declared_names.specs.declared.sort.Sort.TheVariants.{Loose, Null, Int, Flag, Object}
 use Rattle.typed_forms.specs.declared.typed.Typed.{Typed}

@@ -7,7 +7,7 @@ use Rattle.java_tree.specs.declared.names.TypeTree.TheVariants as type
 use Rattle.java_tree.specs.Trees.{Param, Method, Part, invariant, field, method, Classes}
 use Rattle.taco_unit.specs.Words.{is_word}
 use Rattle.declared_names.specs.declared.fault.Fault.{Fault}
-use Rattle.declared_names.specs.declared.fault.Many.TheVariants.{Params}
+use Rattle.refusals.specs.declared.refusal.Many.TheVariants.{Params}
 use Rattle.declared_names.specs.declared.fault.Cause.TheVariants.{Unknown, Twice, TooMany}
 use Rattle.declared_names.specs.declared.sort.Sort.{Sort}
 use Rattle.declared_names.specs.declared.sort.Sort.TheVariants.{Int, Flag}

@@ -9,7 +9,7 @@ use Rattle.taco_unit.specs.declared.expr.Expr.TheVariants as e
 use Rattle.taco_unit.specs.declared.stmt.Stmt.{Stmt as UnitStmt}
 use Rattle.taco_unit.specs.declared.stmt.Stmt.TheVariants as s
 use Rattle.declared_names.specs.declared.fault.Fault.{Fault}
-use Rattle.declared_names.specs.declared.fault.Many.TheVariants.{Locals, Loops}
+use Rattle.refusals.specs.declared.refusal.Many.TheVariants.{Locals, Loops}
 use Rattle.declared_names.specs.declared.fault.Cause.TheVariants.{Twice, Kinds, TooMany}
 use Rattle.declared_names.specs.declared.sort.Sort.{Sort}
 use Rattle.declared_names.specs.declared.sort.Sort.TheVariants.{Loose, Null, Int, Flag, Object}

@@ -6,11 +6,12 @@ ghost use Rattle.typed_statements.specs.Heads.{bare_world as bare_world_lem, cla
 use crate::modifiers::{first_places, is_nullable, modifier_fault, nullness_fault};
 use crate::words::word_fault;
 use declared_names::{
-    Cause, Fault, FieldKnown, Here, Many, MethodKnown, Names, ParamKnown, ResultKnown, Sort, World,
+    Cause, Fault, FieldKnown, Here, MethodKnown, Names, ParamKnown, ResultKnown, Sort, World,
     earlier, unless,
 };
 use java_tree::{ClassTree, Ident, Member, MethodTree, Modifier, ParamTree, Tree, TypeTree};
 use no_memory::NoMemory;
+use refusals::Many;
 use sqlite_items::Items;
 use std::alloc::Global;
 use taco_unit::Name;

@@ -3,9 +3,10 @@ ghost use Rattle.declared_names.specs.Faults.{soonest};
 ghost use Rattle.typed_statements.specs.Statements.{is_full as is_full_lem, local_faults, number_of as number_of_lem, with_local};
 ghost use Rattle.typed_statements.specs.Held.{state_of};
 
-use declared_names::{Cause, Declared, Fault, Here, Many, Sort, earlier, is_fresh, unless};
+use declared_names::{Cause, Declared, Fault, Here, Sort, earlier, is_fresh, unless};
 use java_tree::Ident;
 use no_memory::NoMemory;
+use refusals::Many;
 use sqlite_items::Items;
 use std::alloc::Global;
 use taco_unit::Name;

@@ -11,9 +11,10 @@ ghost use Rattle.typed_statements.specs.Reported.{first_reported, return_reporte
 
 use crate::heads::{type_sort, typed_fault};
 use crate::locals::{Locals, close, declare, is_full, local_fault, no_locals, number_of};
-use declared_names::{Cause, Declared, Fault, Here, Many, Sort, World, beside, pair, unless};
+use declared_names::{Cause, Declared, Fault, Here, Sort, World, beside, pair, unless};
 use java_tree::{DeclTree, Ident, JavaTree, Modifier, StmtTree, TypeTree};
 use no_memory::NoMemory;
+use refusals::Many;
 use sqlite_items::{Boxed, Items};
 use std::alloc::Global;
 use taco_unit::{Expr, Stmt};

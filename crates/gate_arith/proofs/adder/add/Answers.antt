@@ -26,9 +26,9 @@ returns-clause-sum c =
     subst (λ xs. IsPartial old c.ripple.new.gates xs (take top b) c.args.carry top c.in_ok-sum.sum.items c.in_ok-sum.into) low_a
     (subst (λ ys. IsPartial old c.ripple.new.gates c.split_at.result.0.now ys c.args.carry top c.in_ok-sum.sum.items c.in_ok-sum.into) low_b
     (subst (λ n. IsPartial old c.ripple.new.gates c.split_at.result.0.now c.split_at-2.result.0.now c.args.carry n c.in_ok-sum.sum.items c.in_ok-sum.into) count c.in_ok-sum.ensures.sum)) in
-    subst (λ s. IsNumber c.exactly_one.new.gates (length a) (λ inputs. shown old a inputs +ℤ shown old b inputs +ℤ pos (bit (value inputs old c.args.carry))) s c.not.result) (sym c.in_ok-push.ensures.items)
-    (subst (λ n. IsNumber c.exactly_one.new.gates n (λ inputs. shown old a inputs +ℤ shown old b inputs +ℤ pos (bit (value inputs old c.args.carry))) (c.in_ok-sum.sum.items ++ c.in_ok-sign.sign ∷ []) c.not.result) (sym long_a)
-    (sum_number old c.ripple.new.gates c.full_add.new.gates c.exactly_one.new.gates a b top c.args.carry x y c.in_ok-sum.into c.in_ok-sign.sign c.in_ok-sign.out c.in_ok-wraps.wraps c.not.result
+    subst (λ s. IsNumber c.exclusive_or.new.gates (length a) (λ inputs. shown old a inputs +ℤ shown old b inputs +ℤ pos (bit (value inputs old c.args.carry))) s c.not.result) (sym c.in_ok-push.ensures.items)
+    (subst (λ n. IsNumber c.exclusive_or.new.gates n (λ inputs. shown old a inputs +ℤ shown old b inputs +ℤ pos (bit (value inputs old c.args.carry))) (c.in_ok-sum.sum.items ++ c.in_ok-sign.sign ∷ []) c.not.result) (sym long_a)
+    (sum_number old c.ripple.new.gates c.full_add.new.gates c.exclusive_or.new.gates a b top c.args.carry x y c.in_ok-sum.into c.in_ok-sign.sign c.in_ok-sign.out c.in_ok-wraps.wraps c.not.result
     c.in_ok-sum.sum.items long_a long_b c.index-a-top.is c.index-b-top.is of_x of_y part c.in_ok-sign.ensures.sum c.in_ok-sign.ensures.keeps
-    c.in_ok-wraps.ensures.truth c.in_ok-wraps.ensures.keeps (c.not.ensures.of c.exactly_one.new.gates c.in_ok-wraps.ensures.truth.of)
-    (λ inputs. c.not.ensures.value inputs c.exactly_one.new.gates)))
+    c.in_ok-wraps.ensures.truth c.in_ok-wraps.ensures.keeps (c.not.ensures.of c.exclusive_or.new.gates c.in_ok-wraps.ensures.truth.of)
+    (λ inputs. c.not.ensures.value inputs c.exclusive_or.new.gates)))

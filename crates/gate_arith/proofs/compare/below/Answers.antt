@@ -17,5 +17,5 @@ returns-clause-below c =
     let y = c.index-b-top.result in
     let of_x : IsOf c.args.gates.now x = grind (arith, c.requires.left top x (omega arith), c.index-a-top.is) in
     let of_y : IsOf c.args.gates.now y = grind (arith, c.requires.right top y (omega arith), c.index-b-top.is) in
-    compared (λ x y. int_lt x y) (λ n m. nat_lt n m) (λ (s t v : Bool). if differ s t then s else v) c.args.gates.now c.below_low.new.gates c.where_apart.new.gates a b top x y c.in_ok-low.low c.in_ok-gate.gate
+    compared (λ x y. int_lt x y) (λ n m. nat_lt n m) (λ (s t v : Bool). if differ t s then s else v) c.args.gates.now c.below_low.new.gates c.borrow.new.gates a b top x y c.in_ok-low.low c.in_ok-gate.gate
     less_signs long_a long_b c.in_ok-low.ensures.tested c.index-a-top.is c.index-b-top.is of_x of_y c.in_ok-gate.ensures.truth

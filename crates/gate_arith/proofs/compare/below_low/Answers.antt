@@ -15,5 +15,5 @@ loop-place-preserved c =
     let in_b : place < length c.args.b.now = omega (arith, c.requires.in_b) in
     let of_x : IsOf c.args.gates.now x = grind (arith, c.requires.left place x in_a, c.index-a-place.is) in
     let of_y : IsOf c.args.gates.now y = grind (arith, c.requires.right place y in_b, c.index-b-place.is) in
-    tested_more (λ n m. nat_lt n m) (λ (s t v : Bool). if differ s t then t else v) c.args.gates.now c.loop-place.gates c.where_apart.new.gates c.args.a.now c.args.b.now place x y
+    tested_more (λ n m. nat_lt n m) (λ (s t v : Bool). if differ s t then t else v) c.args.gates.now c.loop-place.gates c.borrow.new.gates c.args.a.now c.args.b.now place x y
     c.loop-place.below c.in_ok-below.below less_step c.loop-place.invariant in_a in_b c.index-a-place.is c.index-b-place.is of_x of_y c.in_ok-below.ensures.truth c.in_ok-below.ensures.keeps

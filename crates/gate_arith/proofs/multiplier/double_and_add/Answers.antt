@@ -1,11 +1,12 @@
 -- The sum of the number doubled and the factor where its bit is set.
 use Rattle.std.proofs.Common.{◌≡◌, ◌+◌, [], ◌∷◌, ◌++◌, length, subst, ap, ◌∙◌, arith, pos, ◌+ℤ◌, false}
 use Rattle.std.specs.Prelude.{replicate, if◌then◌else◌}
+use Rattle.std.proofs.Math.IntN.{+ℤ_comm}
 use Rattle.gate_core.specs.Circuit.{value}
 use Rattle.gate_arith.specs.Operations.{shown, doubled_with, IsNumber, IsSelected}
 use Rattle.gate_arith.proofs.Differences.{number_same}
 use Rattle.gate_arith.proofs.Ripple.{shown_keep}
-use Rattle.gate_arith.proofs.Steps.{shown_addend, shown_double, swapped}
+use Rattle.gate_arith.proofs.Steps.{shown_addend, shown_double}
 use Rattle.gate_arith.proofs.multiplier.double_and_add.Goals as goal
 
 pub returns-clause-sum : goal.returns-clause-sum
@@ -35,4 +36,4 @@ returns-clause-sum c =
     ∙ ap (λ z. z +ℤ z) (shown_keep inputs old middle number c.in_ok-addend.ensures.keeps c.requires.number))
     ∙ ap (λ z. (shown old number inputs +ℤ shown old number inputs) +ℤ z)
     (shown_addend inputs old middle c.args.bit none a addend0 x is_false chosen c.requires.some c.index-sign.ensures)
-    ∙ swapped (shown old number inputs +ℤ shown old number inputs) (if value inputs old c.args.bit then shown old a inputs else pos 0)) is
+    ∙ +ℤ_comm (shown old number inputs +ℤ shown old number inputs) (if value inputs old c.args.bit then shown old a inputs else pos 0)) is

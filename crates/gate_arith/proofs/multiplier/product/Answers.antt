@@ -2,7 +2,7 @@
 use Rattle.std.proofs.Common.{◌≡◌, ℕ, ◌+◌, ◌-◌, ◌<◌, length, sym, subst, arith, ◌*ℤ◌, Bool}
 use Rattle.gate_core.specs.Circuit.{IsOf}
 use Rattle.gate_arith.specs.Operations.{shown, high, doubled_with, IsNumber}
-use Rattle.gate_arith.proofs.Ripple.{keeps_twice}
+use Rattle.gate_core.proofs.Values.{keeps_twice}
 use Rattle.gate_arith.proofs.Factors.{product_more}
 use Rattle.gate_arith.proofs.multiplier.product.Goals as goal
 

@@ -1,5 +1,5 @@
 use Rattle.std.proofs.Common.{◌≡◌, true, false, arith}
-use Rattle.heap_eval.specs.Stages.{is_done, stage_of}
+use Rattle.heap_core.specs.Stages.{is_done, stage_of}
 use Rattle.heap_eval.proofs.Ranges.{counted, passed}
 use Rattle.heap_eval.proofs.reach.done_below.Goals as goal
 use Rattle.heap_eval.proofs.reach.done_below.Goals.{then-is_done, else-is_done}

@@ -1,7 +1,7 @@
 use Rattle.std.proofs.Common.{ap}
 use Rattle.std.proofs.lemmas.List.{get_or-replicate}
-use Rattle.heap_eval.specs.declared.reach.Stage.TheVariants.{Unseen, Done}
-use Rattle.heap_eval.specs.Stages.{is_unseen}
+use Rattle.heap_core.specs.declared.visit.Stage.TheVariants.{Unseen, Done}
+use Rattle.heap_core.specs.Stages.{is_unseen}
 use Rattle.heap_eval.proofs.reach.unseen.Goals as goal
 
 pub returns : goal.returns

@@ -8,7 +8,7 @@ use Rattle.tuple_sets.proofs.Sets.{length-all_below}
 use Rattle.bounds_table.specs.declared.rule.View.{View}
 use Rattle.bounds_table.specs.State.{IsSound}
 use Rattle.bounds_table.specs.Core.{tuple_count, opening, first}
-use Rattle.bounds_table.specs.Rule.{spare, first_view}
+use Rattle.bounds_table.specs.Rule.{spare, opening_words, first_view}
 use Rattle.bounds_table.specs.Plays.{IsRight}
 use Rattle.bounds_table.proofs.Runs.{opening-sound}
 use Rattle.bounds_table.proofs.Allowed.{right_of}
@@ -18,28 +18,23 @@ use Rattle.bounds_table.proofs.bounds.Bounds.new.Goals as goal
 pub of_words-requires : goal.of_words-requires
 of_words-requires c =
     let p = c.args.problem.now in
-    let tuples : c.tuple_count-tuples.result ≡ tuple_count p = c.tuple_count-tuples.ensures in
-    let words : c.words_for-words.result ≡ word_count p = c.words_for-words.ensures ∙ ap words_for tuples in
-    let cells : c.as_slice.result.now ≡ all_below (tuple_count p) ++ none_of (spare (word_count p)) =
-    c.as_slice.ensures ∙ c.in_ok-cells.ensures
-    ∙ ap {A = ℕ} {B = List ℕ} (λ n. all_below n ++ none_of (spare c.words_for-words.result)) tuples
-    ∙ ap {A = ℕ} {B = List ℕ} (λ n. all_below (tuple_count p) ++ none_of (spare n)) words
-    in
+    let cells : c.as_slice.result.now ≡ opening_words p = c.as_slice.ensures ∙ c.in_ok-cells.ensures in
     subst IsSound (opening_shown p c.as_slice.result.now cells) (opening-sound p)
 
 pub invariant_of-result : goal.invariant_of-result
 invariant_of-result c =
     let p = c.args.problem.now in
     let key : c.in_ok-table.table.shared.key ≡ p = c.in_ok-table.ensures.5 in
-    let tuples : c.tuple_count-tuples.result ≡ tuple_count p = c.tuple_count-tuples.ensures in
+    let tuples : c.tuple_count-tuples.result ≡ tuple_count p = c.tuple_count-tuples.ensures.value in
     let words : c.words_for-words.result ≡ word_count p = c.words_for-words.ensures ∙ ap words_for tuples in
     let n : ℕ = c.words_for-words.result in
     let room = spare_room n in
     let long : length c.as_slice.result.now ≡ n + spare n =
     ap length (c.as_slice.ensures ∙ c.in_ok-cells.ensures)
-    ∙ length-append (all_below c.tuple_count-tuples.result) (none_of (spare n))
-    ∙ ap (λ m. m + length (none_of (spare n))) (length-all_below c.tuple_count-tuples.result ∙ sym c.words_for-words.ensures)
-    ∙ ap (λ m. n + m) (length-replicate (spare n) 0)
+    ∙ length-append (all_below (tuple_count p)) (none_of (spare (word_count p)))
+    ∙ ap (λ m. m + length (none_of (spare (word_count p)))) (length-all_below (tuple_count p))
+    ∙ ap (λ m. word_count p + m) (length-replicate (spare (word_count p)) 0)
+    ∙ ap (λ m. m + spare m) (sym words)
     in
     let total : c.in_ok-table.table.shared.table_id.words ≡ n + spare n = c.in_ok-table.ensures.0 ∙ long in
     record {
