@@ -14,7 +14,7 @@ use Rattle.taco_run.specs.declared.answer.Evidence.{Evidence}
 use Rattle.taco_run.specs.Headline.{Answers, Says}
 use Rattle.taco_run.specs.PrintedLogs.{Hold, PrintsLog, TellsRefuted}
 use Rattle.taco_run.specs.ProofCommand.{IsFormula, IsJudged, IsLog, IsNoFormula, IsNoLog, IsTooLong, LiesIn, TellsLog, text_limit}
-use Rattle.taco_run.specs.Texts.{satisfiable_text, unsatisfiable_text}
+use Rattle.taco_report.specs.FormulaTexts.{satisfiable_text, unsatisfiable_text}
 
 -- what is said of the content that is told
 content : (P : List ℕ → Type 0) (told : Option (List ℕ)) (bytes : List ℕ) → told ≡ Some bytes → IfSome told P → P bytes

@@ -5,7 +5,7 @@ use Rattle.taco_report.specs.declared.status.Status.TheVariants as status
 use Rattle.taco_run.specs.declared.answer.Evidence.{Evidence}
 use Rattle.taco_run.specs.ProofCommand.{text_limit}
 use Rattle.taco_run.specs.SatCommand.{IsSearched}
-use Rattle.taco_run.specs.Texts.{refuted_line}
+use Rattle.taco_report.specs.FormulaTexts.{refuted_line}
 
 -- Of a file with these bytes `sat` printed that the formula has no solution, and behind that line this text.
 pub record PrintsLog (bytes text : List ℕ) (proof : Evidence) : Type 0 where
