@@ -24,5 +24,6 @@ pub fn hints_count_from_one()
 /// earlier line, so no two such lines have the same literals. It does nothing when it runs: its contract
 /// is the law.
 pub fn fresh_lines_are_distinct()
-    ensures { (clauses : List (List ℕ)) (front : List Step) (later : Step) (rest : List Step) → Fresh clauses (front ++ later ∷ rest) → later.clause ≢ [] → All (λ known. contains_clause later.clause known ≡ false) (clauses ++ clauses_of front) }
+    ensures { (clauses : List (List ℕ)) (front : List Step) (later : Step) (rest : List Step) → Fresh clauses (front ++ later ∷ rest) → later.clause ≢ []
+        → All (λ known. contains_clause later.clause known ≡ false) (clauses ++ clauses_of front) }
 {}

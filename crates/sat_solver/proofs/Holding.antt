@@ -59,7 +59,8 @@ pub known_push : (cnf : Clauses) (log : List Step) (line : Step) → known_by cn
 known_push cnf log line = ap (λ cs. cnf.clauses ++ cs) (map-append (λ (s : Step). s.clause) log (line ∷ [])) ∙ sym (append_assoc cnf.clauses (clauses_of log) (line.clause ∷ []))
 
 -- the log stays one of the search
-pub logged_push : (cnf : Clauses) (log : List Step) (t : TrailState) (table lits : List ℕ) (line : Step) → IsLogged cnf log → t.vars ≡ cnf.vars → IsAsserting (known_by cnf log) t table line lits → HintsFit line → IsLogged cnf (log ++ line ∷ [])
+pub logged_push : (cnf : Clauses) (log : List Step) (t : TrailState) (table lits : List ℕ) (line : Step) → IsLogged cnf log → t.vars ≡ cnf.vars
+    → IsAsserting (known_by cnf log) t table line lits → HintsFit line → IsLogged cnf (log ++ line ∷ [])
 logged_push cnf log t table lits line g vars a fit = record {
   valid = valid_push cnf.clauses log line g.valid a.follows;
   fresh = each_line-append is_new cnf.clauses log (line ∷ []) ∙ and_from (fresh cnf.clauses log) _ g.fresh (and_from (is_new (known_by cnf log) line) _ a.is_new refl);

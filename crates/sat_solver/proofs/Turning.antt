@@ -103,7 +103,8 @@ last_line [] line = refl
 last_line (s ∷ ss) line = last_line ss line
 
 -- the empty line refutes
-pub answer_refuted : (cnf : Clauses) (log : List Step) (budget : ℕ) (line : Step) → IsLogged cnf log → IsWithin budget log → Follows (known_by cnf log) line → line.clause ≡ [] → HintsFit line → IsAnswer cnf (log ++ line ∷ []) budget Refuted
+pub answer_refuted : (cnf : Clauses) (log : List Step) (budget : ℕ) (line : Step) → IsLogged cnf log → IsWithin budget log
+    → Follows (known_by cnf log) line → line.clause ≡ [] → HintsFit line → IsAnswer cnf (log ++ line ∷ []) budget Refuted
 answer_refuted cnf log budget line g w f e fit =
     let none : eqb (length line.clause) 0 ≡ true = eq-eqb (length line.clause) 0 (ap length e) in
     let valid_all : valid cnf.clauses (log ++ line ∷ []) ≡ true = valid_push cnf.clauses log line g.valid f in

@@ -30,10 +30,10 @@ proved : (bytes text : List ℕ) (proof : Evidence) → PrintsLog bytes text pro
 proved bytes text proof printed = elim printed.searched.verdict [
   | inl satisfied ↦ absurd (other satisfied.values satisfied.told)
   | inr refutation ↦ record {
-      formula_is = content (λ b. IsFormula b proof.cnf) (printed.told printed.cnf) bytes printed.holds printed.searched.cnf_is;
-      refutes = refutation.log;
-      text_is = record { lines = printed.searched.kept.lines; text_is = behind refutation.told };
-    }
+    formula_is = content (λ b. IsFormula b proof.cnf) (printed.told printed.cnf) bytes printed.holds printed.searched.cnf_is;
+    refutes = refutation.log;
+    text_is = record { lines = printed.searched.kept.lines; text_is = behind refutation.told };
+  }
 ]
   where
     other : (values : List Bool) → codes "s UNSATISFIABLE\n" ++ text ≡ satisfiable_text values → ⊥

@@ -11,4 +11,5 @@ returns-clause-answer g c = λ budget.
     let s = c.args.self.now in
     let none : s.log ≡ [] = c.requires.1.1.1.1.1.1.1 in
     subst (λ log. IsAnswer s.cnf log budget Refuted) (sym c.in_ok-push.ensures.ok)
-    (answer_refuted s.cnf s.log budget c.in_ok-line.line (logged_nil s.cnf s.log none) (λ some. omega (arith, ap length none)) (subst (λ k. Follows k c.in_ok-line.line) c.requires.0 c.in_ok-line.ensures.follows) c.in_ok-line.ensures.empty c.push.ensures.fit)
+    (answer_refuted s.cnf s.log budget c.in_ok-line.line (logged_nil s.cnf s.log none) (λ some. omega (arith, ap length none))
+    (subst (λ k. Follows k c.in_ok-line.line) c.requires.0 c.in_ok-line.ensures.follows) c.in_ok-line.ensures.empty c.push.ensures.fit)
