@@ -78,7 +78,7 @@ fn first_broken(
     Ok(part)
 }
 
-/// The judgement where the method gives this result and this heap.
+/// The judgement where the method gives this result and leaves this heap.
 pub fn judged_end(
     alloc: Global,
     problem: &Problem,
@@ -88,7 +88,7 @@ pub fn judged_end(
 ) -> Result<Judged, NoMemory>
     requires before { length start.now.objects ≤ problem.now.scope.objects }
     requires after { length heap.now ≤ problem.now.scope.objects }
-    ensures { IfOk result (λ judged. judged ≡ judged_end_lem problem.now start.now returned heap.now) }
+    ensures { IfOk result (λ judged. judged ≡ judged_end_lem problem.now start.now returned (memory_of heap.now)) }
 {
     let gives = gives_of(alloc, problem, start, returned, heap)?;
     let invariants = all_invariants(alloc, problem, heap)?;
