@@ -1,1 +1,2 @@
 mod Row
+mod Six

@@ -1,5 +1,7 @@
-//! Tests of the table of tuples on a small problem.
+//! Tests of the table of tuples, and of sets of tuples, on small problems.
 #![tactic(auto)]
 
+#[cfg(test)]
+mod sets;
 #[cfg(test)]
 mod tests;

@@ -45,7 +45,7 @@ fn one_field(alloc: Global, bare: bool) -> Result<Items<FieldDef>, NoMemory>
     Ok(fields)
 }
 
-fn one_method(alloc: Global, bare: bool) -> Result<Items<MethodDef>, NoMemory>
+pub(crate) fn one_method(alloc: Global, bare: bool) -> Result<Items<MethodDef>, NoMemory>
     ensures { IfOk result (λ l. l ≡ record { name = 109 ∷ []; class = 0; fixed = bare; params = []; result = None; locals = []; needs = []; gives = []; body = Block [] } ∷ []) }
 {
     let name = Name::new(alloc, b"m")?;
