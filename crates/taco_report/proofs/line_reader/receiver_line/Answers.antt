@@ -13,7 +13,7 @@ returns-in_default-2-clause-none c =
     λ v more is same.
     let none = rw c.in_default-2.is at c.in_ok-this.ensures in
     let named : is_named c.args.count c.method_in.result.now.fixed v ≡ true =
-    sym (ap (λ o. option_map_or (λ m. is_named c.args.count m.fixed v) o false) c.method_in.ensures) ∙ is in
+    sym (ap (λ o. option_map_or (λ m. is_named c.args.count m.fixed v) o false) c.method_in.ensures.there) ∙ is in
     let rest : c.in-Some.receiver.now ≡ this_value v ++ (10 ∷ more) =
     behind_one (codes "this ") (this_value v ++ (10 ∷ more)) c.args.text.now c.in-Some.receiver.now c.in-Some.ensures (same ∙ ap (λ l. codes "this " ++ l) (append_assoc (this_value v) (10 ∷ []) more)) in
     let h : SameCut c.word_of.result.0.now (this_value v) c.word_of.result.1.now (10 ∷ more) =
@@ -25,7 +25,7 @@ pub returns-in-None-clause-none : goal.returns-in-None-clause-none
 returns-in-None-clause-none c =
     λ v more is same.
     let named : is_named c.args.count c.method_in.result.now.fixed v ≡ true =
-    sym (ap (λ o. option_map_or (λ m. is_named c.args.count m.fixed v) o false) c.method_in.ensures) ∙ is in
+    sym (ap (λ o. option_map_or (λ m. is_named c.args.count m.fixed v) o false) c.method_in.ensures.there) ∙ is in
     let rest : c.in-Some.receiver.now ≡ this_value v ++ (10 ∷ more) =
     behind_one (codes "this ") (this_value v ++ (10 ∷ more)) c.args.text.now c.in-Some.receiver.now c.in-Some.ensures (same ∙ ap (λ l. codes "this " ++ l) (append_assoc (this_value v) (10 ∷ []) more)) in
     let h : SameCut c.word_of.result.0.now (this_value v) c.word_of.result.1.now (10 ∷ more) =
