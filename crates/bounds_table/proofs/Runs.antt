@@ -4,7 +4,7 @@ use Rattle.std.specs.Prelude.{Option, Some, None, IsSome, ◌==◌, if◌then◌
 use Rattle.std.proofs.Math.Nat.{mul-le-mul_right}
 use Rattle.std.proofs.lemmas.List.{length-replicate, get_or_append_left}
 use Rattle.std.proofs.lemmas.Option.{slice_get_within}
-use Rattle.std.proofs.lemmas.Bool.{eqb-true}
+use Rattle.std.proofs.lemmas.Bool.{eqb-true, and_parts}
 use native.Mathlib.Decide.{ℕ_discrete}
 use mathlib.Core.Logic.{dite}
 use Rattle.heap_core.specs.Posed.{Posed}
@@ -146,10 +146,6 @@ never_goes_back p es fs w ok =
     subst (λ n. IsLive n w → IsLive (run (opening p) es) w → IsLater (known_of (run (opening p) es) w) (known_of n w)) (sym (run-append (opening p) es fs)) (run-later (run (opening p) es) fs w mid.0 mid.1 parts.1)
 
 -- a claim that is answered true comes once
-both_true : (a b : Bool) → (a && b) ≡ true → (a ≡ true) × (b ≡ true)
-both_true true b h = (refl, h)
-both_true false b h = not_blank [] 0 _ h
-
 won : (b : Bool) (x c : ℕ) (claimed : List ℕ) → x / 64 < length claimed → (b ≡ true → (x ≡ c) × (has claimed x ≡ 0)) → (if b then 1 else 0) + has claimed c ≤ has (gain claimed x) c
 won true x c claimed within h =
     let f = h refl in
@@ -162,8 +158,8 @@ won_here s (Claim w r' t') r t sized ok =
     won (((r' == r) && (t' == t)) && is_free s.claimed x) x (pair s.problem r t) s.claimed
     (let l = pair_within s.problem r' t' ok.1 ok.2 in let e = sized.claimed in omega arith)
     (λ h.
-    let a = both_true _ _ h in
-    let b = both_true _ _ a.0 in
+    let a = and_parts _ _ h in
+    let b = and_parts _ _ a.0 in
     (ap (λ n. pair s.problem n t') (eqb-true r' r b.0) ∙ ap (λ n. pair s.problem r n) (eqb-true t' t b.1), eqb-true (has s.claimed x) 0 a.1))
 won_here s (CopyWord w i) r t sized ok = omega arith
 won_here s (Clear w x) r t sized ok = omega arith

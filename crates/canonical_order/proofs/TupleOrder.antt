@@ -29,7 +29,7 @@ target_at objects (suc n) within some =
 pub length-links : (u : Parts) → length (links_of u) ≡ count_by (λ d. is_class_kind d.kind) u.fields
 length-links u = count_at (λ d. is_class_kind d.kind) u.fields
 
-length-targets : (objects : ℕ) → length (targets objects) ≡ objects + 1
+pub length-targets : (objects : ℕ) → length (targets objects) ≡ objects + 1
 length-targets objects = omega (arith, length-map (range_with_len 0 objects) Obj, length-range_with_len 0 objects)
 
 -- the tuples of one root, and of one field

@@ -1,7 +1,7 @@
 -- From the roots down to the first node.
 use Rattle.std.proofs.Common.{◌≡◌, ◌≢◌, ℕ, ◌+◌, ◌*◌, ◌/◌, ◌<◌, ◌≤◌, Bool, true, false, ◌&&◌, List, ◌++◌, length, get_or, refl, sym, ap, subst, ◌∙◌, arith, inl, inr}
 use Rattle.std.specs.Prelude.{slice_get, slice_set}
-use Rattle.std.proofs.lemmas.Bool.{cases_eq, cases_lt, false≢true}
+use Rattle.std.proofs.lemmas.Bool.{cases_eq, cases_lt, false≢true, and_parts, and_from}
 use Rattle.std.proofs.lemmas.List.{get_or-set_same, get_or-set_other, length-set, get_or_past}
 use Rattle.std.proofs.lemmas.List.Folds.{list_all-append}
 use Rattle.std.proofs.lemmas.Option.{same_Some}
@@ -21,13 +21,6 @@ abbrev side_b : Node → ℕ
 side_b (And a b) = b
 side_b Zero = 0
 side_b Input = 0
-
-pub both_true : (a b : Bool) → (a && b) ≡ true → (a ≡ true) × (b ≡ true)
-both_true true b h = (refl, h)
-both_true false b h = absurd (false≢true h)
-
-pub and_true : (a b : Bool) → a ≡ true → b ≡ true → (a && b) ≡ true
-and_true a b h k = ap (λ x. x && b) h ∙ k
 
 -- marks stay, and no mark is made at or behind a place by marks before it
 pub marks_more : (marks : List Bool) (i n : ℕ) → is_marked marks n ≡ true → is_marked (slice_set marks i true) n ≡ true
@@ -85,9 +78,9 @@ down_node nodes roots place a b marks clauses is_mark at within less_a less_b do
             let pair : And x y ≡ And a b = same_Some (And x y) (And a b) (sym stands ∙ ap (slice_get nodes) here ∙ at) in
             (subst (λ (m : Node). is_marked new (side_a m / 2) ≡ true) (sym pair) mark_a, subst (λ (m : Node). is_marked new (side_b m / 2) ≡ true) (sym pair) mark_b))
       ];
-      roots_hold = λ values holds. down.roots_hold values (both_true (clauses_hold values clauses) (clauses_hold values (node_clauses place a b)) (sym (parts values) ∙ holds)).0;
+      roots_hold = λ values holds. down.roots_hold values (and_parts (clauses_hold values clauses) (clauses_hold values (node_clauses place a b)) (sym (parts values) ∙ holds)).0;
       joined = λ values holds n x y from marked stands.
-          let halves = both_true (clauses_hold values clauses) (clauses_hold values (node_clauses place a b)) (sym (parts values) ∙ holds) in
+          let halves = and_parts (clauses_hold values clauses) (clauses_hold values (node_clauses place a b)) (sym (parts values) ∙ holds) in
           elim (cases_lt place n) [
             | inl behind ↦ down.joined values halves.0 n x y (omega arith) (sym (same n from) ∙ marked) stands
             | inr up_to ↦ (let here : n ≡ place = omega arith in
@@ -96,7 +89,7 @@ down_node nodes roots place a b marks clauses is_mark at within less_a less_b do
           ];
       enough = λ values roots_true joined.
           parts values
-          ∙ and_true (clauses_hold values clauses) (clauses_hold values (node_clauses place a b))
+          ∙ and_from (clauses_hold values clauses) (clauses_hold values (node_clauses place a b))
           (down.enough values roots_true (λ n x y from marked stands. joined n x y (omega arith) (same n (omega arith) ∙ marked) stands))
           (node_holds values place a b (joined place a b (omega arith) (same place (omega arith) ∙ is_mark) at));
     }

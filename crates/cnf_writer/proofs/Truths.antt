@@ -80,12 +80,3 @@ gate_by_node inputs nodes g = ap (λ b. if g % 2 == 1 then not b else b) (edge (
 -- a literal is read at its variable alone
 pub lit-same : (v u : ℕ → Bool) (g : ℕ) → v (g / 2) ≡ u (g / 2) → lit_holds v g ≡ lit_holds u g
 lit-same v u g same = ap (λ b. if g % 2 == 1 then not b else b) same
-
--- the value of an input that stands
-pub value_input : (inputs : ℕ → Bool) (nodes : List Node) (place : ℕ) → StandsAt nodes Input place → value inputs nodes (2 * place) ≡ inputs place
-value_input inputs nodes place at =
-    let parts = split_at_place nodes place Input at in
-    let count : length parts.0 ≡ place = parts.3 in
-    let whole : Keeps (parts.0 ++ Input ∷ []) nodes = keeps_by (parts.0 ++ Input ∷ []) nodes parts.1 parts.2 in
-    whole.values inputs (2 * place) (omega (arith, length-append parts.0 (Input ∷ [])))
-    ∙ ap (λ p. value inputs (parts.0 ++ Input ∷ []) (2 * p)) (sym count) ∙ value_pushed_input inputs parts.0 ∙ ap inputs count

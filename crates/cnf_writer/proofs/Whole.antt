@@ -2,21 +2,21 @@
 use Rattle.std.proofs.Common.{◌≡◌, ℕ, zero, suc, ◌+◌, ◌-◌, ◌*◌, ◌/◌, ◌<◌, Bool, true, false, ◌&&◌, ◌||◌, List, [], ◌∷◌, ◌++◌, length, take, get_or, refl, sym, ap, subst, ◌∙◌, arith, inl, inr, All}
 use Rattle.std.specs.Prelude.{◌==◌, if◌then◌else◌, slice_get, slice_set, Some}
 use Rattle.std.specs.List.{list_all}
-use Rattle.std.proofs.lemmas.Bool.{cases_eq, cases_lt, false≢true, eqb-true, eq-eqb}
+use Rattle.std.proofs.lemmas.Bool.{cases_eq, cases_lt, false≢true, eqb-true, eq-eqb, and_parts, and_from}
 use Rattle.std.proofs.lemmas.List.{take_more, take_all}
 use Rattle.std.proofs.lemmas.List.Folds.{list_all-append}
 use Rattle.std.proofs.lemmas.Option.{none-some, slice_get_within, same_Some, slice_get-get_or, get_or_from_slice_get}
 use Rattle.gate_core.specs.declared.circuit.Node.{Node}
 use Rattle.gate_core.specs.declared.circuit.Node.TheVariants.{Zero, Input, And}
 use Rattle.gate_core.specs.Circuit.{value, StandsAt, IsCircuit, IsOf}
-use Rattle.gate_core.proofs.Values.{value_standing}
+use Rattle.gate_core.proofs.Values.{value_standing, value_standing_input}
 use Rattle.gate_core.proofs.Conjunctions.{value_zero, value_constant}
 use Rattle.cnf_core.specs.Clauses.{Clauses}
 use Rattle.cnf_core.specs.Truth.{lit_holds, clause_holds, clauses_hold}
 use Rattle.cnf_writer.specs.Written.{IsBelow, root, left, right, values_of, IsWritten}
 use Rattle.cnf_writer.specs.Progress.{root_clauses, root_holds, is_marked, IsRooted, IsDown}
-use Rattle.cnf_writer.proofs.Truths.{gate_by_node, lit-same, value_input}
-use Rattle.cnf_writer.proofs.Down.{and_true, both_true, marks_more, marks_here}
+use Rattle.cnf_writer.proofs.Truths.{gate_by_node, lit-same}
+use Rattle.cnf_writer.proofs.Down.{marks_more, marks_here}
 
 or_false : (b : Bool) → ((b || false) && true) ≡ b
 or_false true = refl
@@ -75,7 +75,7 @@ told_node : (values : ℕ → Bool) (nodes : List Node) (roots : List ℕ) (mark
     → (n : ℕ) → 0 < n → n < length nodes → is_marked marks n ≡ true → (node : Node) → StandsAt nodes node n
     → ((m : ℕ) → m < n → 0 < m → m < length nodes → is_marked marks m ≡ true → values m ≡ value values nodes (2 * m)) → values n ≡ value values nodes (2 * n)
 told_node values nodes roots marks clauses circuit down holds n some within marked Zero at before = absurd (let none = circuit.only n at in omega arith)
-told_node values nodes roots marks clauses circuit down holds n some within marked Input at before = sym (value_input values nodes n at)
+told_node values nodes roots marks clauses circuit down holds n some within marked Input at before = sym (value_standing_input values nodes n at)
 told_node values nodes roots marks clauses circuit down holds n some within marked (And a b) at before =
     let earlier = circuit.earlier n a b at in
     let free = circuit.free n a b at in
@@ -103,12 +103,12 @@ told_by values nodes roots marks clauses circuit down holds (suc bound) n less s
 -- one of many that all pass
 one_of_all : {X : Type 0} (test : X → Bool) (xs : List X) (i : ℕ) (x : X) → list_all test xs ≡ true → slice_get xs i ≡ Some x → test x ≡ true
 one_of_all test [] i x h at = absurd (none-some x at)
-one_of_all test (y ∷ ys) zero x h at = subst (λ z. test z ≡ true) (same_Some y x at) (both_true (test y) (list_all test ys) h).0
-one_of_all test (y ∷ ys) (suc i) x h at = one_of_all test ys i x (both_true (test y) (list_all test ys) h).1 at
+one_of_all test (y ∷ ys) zero x h at = subst (λ z. test z ≡ true) (same_Some y x at) (and_parts (test y) (list_all test ys) h).0
+one_of_all test (y ∷ ys) (suc i) x h at = one_of_all test ys i x (and_parts (test y) (list_all test ys) h).1 at
 
 all_of_each : {X : Type 0} (test : X → Bool) (xs : List X) → ((i : ℕ) (x : X) → slice_get xs i ≡ Some x → test x ≡ true) → list_all test xs ≡ true
 all_of_each test [] each = refl
-all_of_each test (x ∷ xs) each = and_true (test x) (list_all test xs) (each 0 x refl) (all_of_each test xs (λ i y at. each (suc i) y at))
+all_of_each test (x ∷ xs) each = and_from (test x) (list_all test xs) (each 0 x refl) (all_of_each test xs (λ i y at. each (suc i) y at))
 
 -- a root is true under an assignment that gives its node its value
 root_value_by : (values : ℕ → Bool) (nodes : List Node) (r : ℕ) (one none : Bool) → IsCircuit nodes → (one ≡ true → r ≡ 1) → (none ≡ true → r ≡ 0) → (one ≡ false → none ≡ false → lit_holds values r ≡ value values nodes r)

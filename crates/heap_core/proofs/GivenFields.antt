@@ -26,7 +26,8 @@ use Rattle.heap_core.specs.Posed.{Posed}
 use Rattle.heap_core.specs.Outcomes.{value_in, zero_of, is_bad, is_out}
 use Rattle.heap_core.specs.Heap.{Heap, is_of, class_at, place_of, declares, cell, cell_of, field, first_value, blank, has_room, grown}
 use Rattle.heap_core.specs.Start.{has_kind, has_field_kind, is_whole}
-use Rattle.heap_core.proofs.Lists.{slice_get-append_left, append_last, all_at, all_from, beside, beside_map, place_found, all_filtered, any_filtered}
+use Rattle.taco_unit.proofs.Lists.{append_last}
+use Rattle.heap_core.proofs.Lists.{slice_get-append_left, all_at, all_from, beside, beside_map, place_found, all_filtered, any_filtered}
 use Rattle.heap_core.proofs.FieldLaws.{whole_kept, Keeps, none_some, some_same, below}
 
 -- ## which class declares a field

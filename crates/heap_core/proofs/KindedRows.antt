@@ -15,6 +15,7 @@ use Rattle.taco_unit.specs.Parts.{Parts}
 use Rattle.taco_unit.specs.Kinds.{Of, Around, Exit, sort_of}
 use Rattle.taco_unit.specs.Well.{IsWell, IsWellClass, IsWellField, IsWellMethod, around_method, param_kinds, result_kind}
 use Rattle.taco_unit.proofs.KindForms.{sort_forms, fitting_forms}
+use Rattle.taco_unit.proofs.Lists.{only}
 use Rattle.heap_core.specs.declared.value.Value.{Value}
 use Rattle.heap_core.specs.declared.value.Value.TheVariants as v
 use Rattle.heap_core.specs.declared.value.Object.{Object}
@@ -73,12 +74,6 @@ grow = record {
 abbrev the_unit : Parts
 the_unit = record { classes = the_class ∷ []; fields = value_field ∷ next_field ∷ []; methods = grow ∷ [] }
 
-well_class : (c : ℕ) (d : ClassDef) → slice_get the_unit.classes c ≡ Some d → IsWellClass the_unit c d
-well_class zero d is =
-    let same : the_class ≡ d = cc in
-    subst (λ x. IsWellClass the_unit zero x) same (record { named = refl; lists_fields = refl; lists_methods = refl; invariants = simp sort_forms refl; few_invariants = omega arith })
-well_class (suc c) d is = absurd (cc)
-
 well_field : (f : ℕ) (d : FieldDef) → slice_get the_unit.fields f ≡ Some d → IsWellField the_unit d
 well_field zero d is =
     let same : value_field ≡ d = cc in
@@ -87,25 +82,6 @@ well_field (suc zero) d is =
     let same : next_field ≡ d = cc in
     subst (λ x. IsWellField the_unit x) same (record { named = refl; in_class = omega arith; kind_there = refl })
 well_field (suc (suc f)) d is = absurd (cc)
-
-well_method : (m : ℕ) (d : MethodDef) → slice_get the_unit.methods m ≡ Some d → IsWellMethod the_unit d
-well_method zero d is =
-    let same : grow ≡ d = cc in
-    subst (λ x. IsWellMethod the_unit x) same (record {
-      named = refl;
-      in_class = omega arith;
-      params_named = refl;
-      params_apart = λ i j d' lt within. absurd (omega arith);
-      kinds_there = refl;
-      result_there = refl;
-      needs = simp sort_forms refl;
-      gives = simp sort_forms refl;
-      body = simp (sort_forms, fitting_forms) refl;
-      few_params = omega arith;
-      few_needs = omega arith;
-      few_gives = omega arith;
-    })
-well_method (suc m) d is = absurd (cc)
 
 fields_apart : AllPairs (λ (f g : FieldDef). f.class ≡ g.class → f.name ≢ g.name) the_unit.fields
 fields_apart zero (suc zero) d lt within = λ in_one same. absurd (omega (arith, ap (λ (xs : List ℕ). get_or xs 0 0) same))
@@ -116,9 +92,22 @@ fields_apart i (suc (suc j)) d lt within = absurd (omega arith)
 
 well : IsWell the_unit
 well = record {
-  classes = well_class;
+  classes = only (IsWellClass the_unit) the_class (record { named = refl; lists_fields = refl; lists_methods = refl; invariants = simp sort_forms refl; few_invariants = omega arith });
   fields = well_field;
-  methods = well_method;
+  methods = only (λ m. IsWellMethod the_unit) grow (record {
+    named = refl;
+    in_class = omega arith;
+    params_named = refl;
+    params_apart = λ i j d' lt within. absurd (omega arith);
+    kinds_there = refl;
+    result_there = refl;
+    needs = simp sort_forms refl;
+    gives = simp sort_forms refl;
+    body = simp (sort_forms, fitting_forms) refl;
+    few_params = omega arith;
+    few_needs = omega arith;
+    few_gives = omega arith;
+  });
   classes_apart = λ i j d lt within. absurd (omega arith);
   fields_apart = fields_apart;
   few_classes = omega arith;

@@ -1,4 +1,4 @@
--- Items of lists: where one was set, behind the last, in two lists that go side by side.
+-- Items of lists: where one was set, in two lists that go side by side.
 use Rattle.std.proofs.Common.{◌≡◌, ℕ, zero, suc, ◌<◌, ◌+◌, Bool, true, ◌||◌, List, [], ◌∷◌, ◌++◌, length, Some, refl, sym, ◌∙◌, ap, inl, inr, arith, set}
 use Rattle.std.specs.Prelude.{◌==◌, map, filter, position, slice_get}
 use Rattle.std.specs.List.{list_all, list_any, position_or_len}
@@ -29,10 +29,6 @@ slice_get-append_right [] ys i = ap (slice_get ys) (omega arith)
 slice_get-append_right (x ∷ xs) ys i =
     let e : suc (length xs) + i ≡ suc (length xs + i) = omega arith in
     ap (slice_get (x ∷ (xs ++ ys))) e ∙ slice_get-append_right xs ys i
-
-pub append_last : {A : Type 0} (xs : List A) (y : A) → slice_get (xs ++ y ∷ []) (length xs) ≡ Some y
-append_last [] y = refl
-append_last (x ∷ xs) y = append_last xs y
 
 -- each item of a list that passes whole passes
 pub all_at : {A : Type 0} (test : A → Bool) (xs : List A) (i : ℕ) (x : A) → list_all test xs ≡ true → slice_get xs i ≡ Some x → test x ≡ true

@@ -8,6 +8,3 @@ mod walk;
 
 pub use environment::Environment;
 pub use walk::evaluate;
-
-#[cfg(test)]
-mod tests;

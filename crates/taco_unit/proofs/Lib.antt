@@ -1,1 +1,2 @@
 pub mod KindForms
+pub mod Lists

@@ -6,7 +6,6 @@ use Rattle.std.specs.Option.{option_map_or}
 use Rattle.std.proofs.lemmas.Bool.{cases_Bool, cases_lt, eqb-true, false≢true}
 use Rattle.std.proofs.lemmas.Bool.Decides.{nat_tests}
 use Rattle.std.proofs.lemmas.List.{length-append, length-map, length-drop, get_or-drop, get_or_append_left, length-replicate, drop-drop}
-use Rattle.std.proofs.lemmas.List.FromFn.{length-range_with_len}
 use Rattle.std.proofs.lemmas.Option.{slice_get-map, slice_get_within, slice_get-get_or, get_or_from_slice_get, same_Some}
 use Rattle.std.proofs.Math.Seq.{drop-append_seam}
 use native.Mathlib.Decide.{ℕ_discrete}
@@ -23,6 +22,7 @@ use Rattle.canonical_order.specs.declared.tuple.Tuple.{Tuple}
 use Rattle.canonical_order.specs.declared.tuple.Tuple.TheVariants.{Field}
 use Rattle.canonical_order.specs.Tuples.{targets, tuples, occurs}
 use Rattle.canonical_order.proofs.Counting.{slice_get-range}
+use Rattle.canonical_order.proofs.TupleOrder.{length-targets}
 use Rattle.tuple_sets.specs.Words.{has, gain, none_of}
 use Rattle.tuple_sets.specs.Numbered.{word_count}
 use Rattle.tuple_sets.specs.Occurring.{OccursAt, IsSetOf}
@@ -52,9 +52,6 @@ at_object objects j Null small = grind (arith, nat_tests)
 at_object objects j (Obj o) small = same_object objects o j small ∙ sym (kept_place (nat_lt o objects) (o + 1) (suc j))
 at_object objects j (Num z) small = refl
 at_object objects j (Flag b) small = refl
-
-length-targets : (objects : ℕ) → length (targets objects) ≡ objects + 1
-length-targets objects = omega (arith, length-map (range_with_len 0 objects) Obj, length-range_with_len 0 objects)
 
 target_is : (objects j : ℕ) (v x : Value) → slice_get (targets objects) j ≡ Some x → is_value v x ≡ option_map_or (λ i. i == j) (target_place objects v) false
 target_is objects zero v x there = ap (is_value v) (sym (same_Some Null x there)) ∙ at_null objects v

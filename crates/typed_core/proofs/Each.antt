@@ -9,7 +9,8 @@ use Rattle.std.proofs.lemmas.List.Sums.{fails_before_first}
 use Rattle.std.proofs.lemmas.Slice.Eq.{bytes_eq-Decides}
 use Rattle.std.proofs.lemmas.List.{length-append}
 use Rattle.declared_names.specs.Lookups.{is_key, place_in}
-use Rattle.typed_statements.proofs.Agrees.{kept, last_one}
+use Rattle.taco_unit.proofs.Lists.{append_last}
+use Rattle.typed_statements.proofs.Agrees.{kept}
 use Rattle.typed_statements.proofs.CallKinds.{both_of}
 use Rattle.typed_core.specs.Members.{is_first}
 
@@ -38,7 +39,7 @@ each_at R xs ys x y h new i z (inl before) = let found = h.at i z before in (fou
 each_at {A} {B} R xs ys x y h new i z (inr last) =
     let P : ℕ → Type 0 = λ n. R n z y in
     let Q : A → Type 0 = λ a. R (length xs) a y in
-    (y, ap (slice_get (ys ++ y ∷ [])) (last.0 ∙ h.same) ∙ last_one ys y, subst P (sym last.0) (subst Q (sym last.1) new))
+    (y, ap (slice_get (ys ++ y ∷ [])) (last.0 ∙ h.same) ∙ append_last ys y, subst P (sym last.0) (subst Q (sym last.1) new))
 
 pub each_push : {A B : Type 0} (R : ℕ → A → B → Type 0) (xs : List A) (ys : List B) (x : A) (y : B) → Each R xs ys → R (length xs) x y → Each R (xs ++ x ∷ []) (ys ++ y ∷ [])
 each_push R xs ys x y h new =

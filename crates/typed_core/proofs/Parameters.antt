@@ -20,7 +20,8 @@ use Rattle.typed_statements.specs.Kinds.{kind_of, param_def}
 use Rattle.typed_statements.specs.Heads.{Names, typed_faults, word_faults, param_faults, params_faults, param_known, type_sort}
 use Rattle.typed_statements.proofs.Stand.{nothing_left, nothing_right, passes}
 use Rattle.typed_statements.proofs.Suits.{is_kind}
-use Rattle.typed_statements.proofs.Agrees.{Knows, kept, last_one, mapped}
+use Rattle.taco_unit.proofs.Lists.{append_last}
+use Rattle.typed_statements.proofs.Agrees.{Knows, kept, mapped}
 use Rattle.typed_statements.proofs.CallKinds.{both_of}
 use Rattle.typed_statements.proofs.BodiesFit.{typed_quiet, type_fixed, typed_in_unit}
 use Rattle.typed_core.proofs.Each.{apart_from, not_nowhere, is_own_key}
@@ -129,7 +130,7 @@ differ_from names before (x ∷ ps) quiet i zero p q less is_p is_q = absurd (om
 differ_from names before (x ∷ ps) quiet zero (suc j) p q less is_p is_q =
     let same : x ≡ p = cc in
     let P : Param → Type 0 = λ r. r.name.text ≢ q.name.text in
-    subst P same (later_differs names (and_name before x) ps (rest_quiet names before x ps quiet) (length before) x.name.text (last_one before (0, x.name.text)) j q is_q)
+    subst P same (later_differs names (and_name before x) ps (rest_quiet names before x ps quiet) (length before) x.name.text (append_last before (0, x.name.text)) j q is_q)
 differ_from names before (x ∷ ps) quiet (suc i) (suc j) p q less is_p is_q = differ_from names (and_name before x) ps (rest_quiet names before x ps quiet) i j p q (omega arith) is_p is_q
 
 -- the parameter that a parameter of the unit comes from

@@ -31,7 +31,8 @@ use Rattle.typed_statements.specs.Kinds.{kind_of, param_def, result_def}
 use Rattle.typed_statements.specs.Heads.{Names, next, type_sort, is_object_type, typed_faults, word_faults, field_known, method_known, with_field, with_method}
 use Rattle.typed_statements.proofs.Stand.{nothing_left, nothing_right, passes}
 use Rattle.typed_statements.proofs.Suits.{is_kind}
-use Rattle.typed_statements.proofs.Agrees.{Knows, kept, last_one}
+use Rattle.taco_unit.proofs.Lists.{append_last}
+use Rattle.typed_statements.proofs.Agrees.{Knows, kept}
 use Rattle.typed_statements.proofs.Fitting.{Before}
 use Rattle.typed_statements.proofs.BodiesFit.{typed_quiet, type_fixed, typed_in_unit}
 use Rattle.typed_core.specs.declared.members.Counts.{Counts}
@@ -144,7 +145,7 @@ name_at w before key n even many behind =
     let long : n ≡ length before.field_names = many ∙ sym (ap length even.fields ∙ length-map before.fields (λ (d : FieldKnown). (d.class, d.name))) in
     ap (slice_get w.field_names) long
     ∙ ap (λ l. slice_get l (length before.field_names)) behind.is
-    ∙ kept (before.field_names ++ key ∷ []) behind.more (length before.field_names) key (last_one before.field_names key)
+    ∙ kept (before.field_names ++ key ∷ []) behind.more (length before.field_names) key (append_last before.field_names key)
 
 pub totals_field : (w before : World) (n : ℕ) (default : Bool) (counts : Counts) (mods : List Modifier) (kind : TypeTree) (i : Ident) (fs : List FieldDef) (ms : List MethodDef) → Even before → w.classes ≡ before.classes
     → Before (before.field_names ++ (n, i.text) ∷ []) w.field_names → n < length w.classes → field_faults w n counts mods kind i ≡ [] → Totals w before counts fs ms

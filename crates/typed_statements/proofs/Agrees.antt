@@ -126,7 +126,3 @@ pub kept : {A : Type 0} (xs ys : List A) (i : ℕ) (x : A) → slice_get xs i �
 kept [] ys i x is = absurd (cc)
 kept (z ∷ xs) ys zero x is = is
 kept (z ∷ xs) ys (suc i) x is = kept xs ys i x is
-
-pub last_one : {A : Type 0} (xs : List A) (y : A) → slice_get (xs ++ y ∷ []) (length xs) ≡ Some y
-last_one [] y = refl
-last_one (z ∷ xs) y = last_one xs y

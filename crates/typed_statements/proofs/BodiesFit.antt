@@ -37,7 +37,8 @@ use Rattle.typed_statements.specs.Heads.{Names, type_sort, type_faults, typed_fa
 use Rattle.typed_statements.specs.Statements.{State, Ended, closed, is_full, skipped, as_stmt, as_list, branch, condition_of, set_of, step_of, run_of, returned, first_value, number_of, with_local, local_faults, initial, first_set, seen_decl, seen_decls, seen_local, deeper, many_loops, nothing, block_of, branch_of, if_of, else_of, while_of, seen_stmt, seen_stmts}
 use Rattle.typed_statements.proofs.Stand.{OnStands, on_over, on_over_two, on_unless, on_beside, on_then, weaker, nothing_left, nothing_right, passes}
 use Rattle.typed_statements.proofs.Suits.{is_kind, HasSort}
-use Rattle.typed_statements.proofs.Agrees.{Knows, LocalAt, grown, kept, last_one}
+use Rattle.taco_unit.proofs.Lists.{append_last}
+use Rattle.typed_statements.proofs.Agrees.{Knows, LocalAt, grown, kept}
 use Rattle.typed_statements.proofs.CallKinds.{both_of, HasPlace, HasCall}
 use Rattle.typed_statements.proofs.ExpressionKinds.{sorts, the_class}
 use Rattle.typed_statements.proofs.Fitting.{Before, before_trans, decls_grow, stmt_grows, stmts_grow, Surrounds, Holds, all_both, agrees_in, tested, AllFit, one_fits, block_fits, as_stmt_fits, value_suits, set_fits, step_fits, run_fits, target_placed, call_gives, return_fits}
@@ -109,7 +110,7 @@ new_local w h all k sort i st around fixed few before =
       at = ap (λ l. slice_get l (byte (number_of h st))) around.locals
           ∙ behind (map kind_of h.sorts) (map kind_of all) (length st.sorts) (byte (number_of h st)) place
           ∙ slice_get-map kind_of all (length st.sorts)
-          ∙ ap (option_map kind_of) (ap (λ l. slice_get l (length st.sorts)) before.is ∙ kept (st.sorts ++ sort ∷ []) before.more (length st.sorts) sort (last_one st.sorts sort));
+          ∙ ap (option_map kind_of) (ap (λ l. slice_get l (length st.sorts)) before.is ∙ kept (st.sorts ++ sort ∷ []) before.more (length st.sorts) sort (append_last st.sorts sort));
       fixed = fixed;
     }
 

@@ -35,7 +35,8 @@ use Rattle.typed_statements.specs.Kinds.{kind_of}
 use Rattle.typed_statements.proofs.Stand.{OnStands, on_over, on_over_late, on_over_two, on_over_two_late, on_unless, nothing_left, nothing_right, passes, stands}
 use Rattle.typed_statements.proofs.Suits.{as_sort, is_known, is_kind, kind_known, kind_sort, same_byte, HasSort, wanted_suits, one_passes}
 use Rattle.typed_statements.proofs.OperatorKinds.{clause_form, code_form, exit_form, operated_sort, negated_sort, minus_sort}
-use Rattle.typed_statements.proofs.Agrees.{BoundAt, Agrees, Knows, declared_at, grown, kept, last_one}
+use Rattle.taco_unit.proofs.Lists.{append_last}
+use Rattle.typed_statements.proofs.Agrees.{BoundAt, Agrees, Knows, declared_at, grown, kept}
 use Rattle.typed_statements.proofs.CallKinds.{left_of, right_of, both_of, HasPlace, place_sort, named_placed, read_placed, HaveSorts, HasCall, own_call_sort, class_call_sort, object_call_sort, call_value_sort}
 
 -- a class of the unit
@@ -166,7 +167,7 @@ variable_at sc k kind i c agrees is =
     record {
       owner = c;
       is = ap class_sort is;
-      at = ap (slice_get (k.bound ++ byte c ∷ [])) (small (length sc.bound) agrees.few ∙ sym agrees.depth) ∙ last_one k.bound (byte c);
+      at = ap (slice_get (k.bound ++ byte c ∷ [])) (small (length sc.bound) agrees.few ∙ sym agrees.depth) ∙ append_last k.bound (byte c);
     }
 
 variables_at : (sc : Scope) (k : Around) (kind i : Ident) (c j : ℕ) (d : Declared) → Agrees sc k → place_in sc.world.classes 0 kind.text ≡ Some c → (slice_get sc.bound j ≡ Some d) ⊎ (d ≡ variable sc.world sc.bound kind i)

@@ -1,11 +1,11 @@
-use Rattle.std.proofs.Common.{◌≡◌, ℕ, zero, suc, [], ◌∷◌, Some, None, false, refl, sym, arith, subst}
-use Rattle.std.specs.Prelude.{slice_get}
+use Rattle.std.proofs.Common.{◌≡◌, ℕ, [], ◌∷◌, Some, None, false, refl, sym, arith, subst}
 use Rattle.taco_unit.specs.declared.unit.ClassDef.{ClassDef}
 use Rattle.taco_unit.specs.declared.unit.MethodDef.{MethodDef}
 use Rattle.taco_unit.specs.declared.stmt.Stmt.TheVariants.{Block}
 use Rattle.taco_unit.specs.Parts.{Parts}
 use Rattle.taco_unit.specs.Well.{IsWell, IsWellClass, IsWellMethod}
 use Rattle.taco_unit.proofs.KindForms.{fitting_forms}
+use Rattle.taco_unit.proofs.Lists.{only}
 use Rattle.canonical_order.proofs.tests.idle_problem.Goals as goal
 
 abbrev the_class : ClassDef
@@ -17,36 +17,24 @@ the_method = record { name = 109 ∷ []; class = 0; fixed = false; params = []; 
 abbrev the_unit : Parts
 the_unit = record { classes = the_class ∷ []; fields = []; methods = the_method ∷ [] }
 
-well_class : (c : ℕ) (d : ClassDef) → slice_get the_unit.classes c ≡ Some d → IsWellClass the_unit c d
-well_class zero d is =
-    let same : the_class ≡ d = cc in
-    subst (λ x. IsWellClass the_unit zero x) same (record { named = refl; lists_fields = refl; lists_methods = refl; invariants = refl; few_invariants = omega arith })
-well_class (suc c) d is = absurd (cc)
-
-well_method : (m : ℕ) (d : MethodDef) → slice_get the_unit.methods m ≡ Some d → IsWellMethod the_unit d
-well_method zero d is =
-    let same : the_method ≡ d = cc in
-    subst (λ x. IsWellMethod the_unit x) same (record {
-      named = refl;
-      in_class = omega arith;
-      params_named = refl;
-      params_apart = λ i j d lt within. absurd (omega arith);
-      kinds_there = refl;
-      result_there = refl;
-      needs = refl;
-      gives = refl;
-      body = simp fitting_forms refl;
-      few_params = omega arith;
-      few_needs = omega arith;
-      few_gives = omega arith;
-    })
-well_method (suc c) d is = absurd (cc)
-
 well : IsWell the_unit
 well = record {
-  classes = well_class;
+  classes = only (IsWellClass the_unit) the_class (record { named = refl; lists_fields = refl; lists_methods = refl; invariants = refl; few_invariants = omega arith });
   fields = λ f d is. absurd (cc);
-  methods = well_method;
+  methods = only (λ m. IsWellMethod the_unit) the_method (record {
+    named = refl;
+    in_class = omega arith;
+    params_named = refl;
+    params_apart = λ i j d lt within. absurd (omega arith);
+    kinds_there = refl;
+    result_there = refl;
+    needs = refl;
+    gives = refl;
+    body = simp fitting_forms refl;
+    few_params = omega arith;
+    few_needs = omega arith;
+    few_gives = omega arith;
+  });
   classes_apart = λ i j d lt within. absurd (omega arith);
   fields_apart = λ i j d lt within. absurd (omega arith);
   few_classes = omega arith;

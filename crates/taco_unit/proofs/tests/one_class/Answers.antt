@@ -1,8 +1,8 @@
-use Rattle.std.proofs.Common.{◌≡◌, ℕ, zero, suc, List, [], ◌∷◌, ◌++◌, Some, refl, ap, ◌∙◌, arith, subst}
-use Rattle.std.specs.Prelude.{slice_get}
+use Rattle.std.proofs.Common.{◌≡◌, ℕ, List, [], ◌∷◌, ◌++◌, Some, refl, ap, ◌∙◌, arith, subst}
 use Rattle.taco_unit.specs.declared.unit.ClassDef.{ClassDef}
 use Rattle.taco_unit.specs.Parts.{Parts}
 use Rattle.taco_unit.specs.Well.{IsWell, IsWellClass}
+use Rattle.taco_unit.proofs.Lists.{only}
 use Rattle.taco_unit.proofs.tests.one_class.Goals as goal
 
 -- the unit of one class B without members
@@ -12,15 +12,9 @@ the_class name = record { name = name; fields = []; methods = []; invariants = [
 abbrev the_unit : Parts
 the_unit = record { classes = the_class (66 ∷ []) ∷ []; fields = []; methods = [] }
 
-well_class : (c : ℕ) (d : ClassDef) → slice_get the_unit.classes c ≡ Some d → IsWellClass the_unit c d
-well_class zero d is =
-    let same : the_class (66 ∷ []) ≡ d = cc in
-    subst (λ x. IsWellClass the_unit zero x) same (record { named = refl; lists_fields = refl; lists_methods = refl; invariants = refl; few_invariants = omega arith })
-well_class (suc c) d is = absurd (cc)
-
 well : IsWell the_unit
 well = record {
-  classes = well_class;
+  classes = only (IsWellClass the_unit) (the_class (66 ∷ [])) (record { named = refl; lists_fields = refl; lists_methods = refl; invariants = refl; few_invariants = omega arith });
   fields = λ f d is. absurd (cc);
   methods = λ m d is. absurd (cc);
   classes_apart = λ i j d lt within. absurd (omega arith);
