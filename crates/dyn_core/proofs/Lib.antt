@@ -1,2 +1,5 @@
 pub mod Forms
 pub mod Induction
+pub mod Members
+pub mod Cases
+mod Rows
