@@ -2,4 +2,5 @@ pub mod Forms
 pub mod Induction
 pub mod Members
 pub mod Cases
+pub mod Bounds
 mod Rows
