@@ -3,4 +3,5 @@ pub mod Induction
 pub mod Members
 pub mod Cases
 pub mod Bounds
+pub mod Alike
 mod Rows
