@@ -3,9 +3,10 @@
 use Rattle.std.proofs.Common.{◌≡◌, ◌↔◌, ℕ, zero, suc, Bool, true, false, List, [], ◌∷◌, ◌++◌, refl, sym, ◌∙◌, ap, subst}
 use Rattle.std.specs.Prelude.{map, flat_map, Contains}
 use Rattle.std.specs.List.{list_all, AllByRecursion}
-use Rattle.std.proofs.lemmas.Bool.{false≢true, and_parts, and_from}
+use Rattle.std.proofs.lemmas.Bool.{false≢true, and_from}
 use Rattle.std.proofs.lemmas.List.{append-nil}
-use Rattle.std.proofs.lemmas.List.Folds.{list_all-map, flat_map-map}
+use Rattle.std.proofs.lemmas.List.Folds.{flat_map-map}
+use Rattle.std.proofs.lemmas.Simd.{map-map}
 use Rattle.taco_unit.specs.declared.kind.Kind.{Kind}
 use Rattle.heap_core.specs.Posed.{Posed}
 use Rattle.dyn_core.specs.declared.prog.Prog.{Prog}
@@ -16,7 +17,7 @@ use Rattle.dyn_core.specs.Kinds.{is_kinded}
 use Rattle.dyn_core.specs.Unrolled.{starless, turn_or_none, repeated, unrolled, IsUnrolled}
 use Rattle.dyn_core.specs.Laws.{StarlessRunsAlike}
 use Rattle.dyn_core.proofs.Forms.{ends_act, ends_test, ends_seq, ends_choice, ends_star, kinded_act, kinded_test, kinded_seq, kinded_choice, kinded_star, starless_act, starless_test, starless_seq, starless_choice, starless_star, unrolled_act, unrolled_test, unrolled_seq, unrolled_choice, unrolled_star}
-use Rattle.dyn_core.proofs.Induction.{Forms, by_form}
+use Rattle.dyn_core.proofs.Induction.{Forms, by_form, all_passing}
 
 -- ## lists of last states
 
@@ -53,29 +54,18 @@ ends_turn p n body more s =
 
 -- ## no iteration
 
--- the parts are without iterations
-parts_alike : (f g : Prog → LastStates) (xs : List Prog) → AllByRecursion (λ x. starless x ≡ true → Same f g x) xs → list_all starless xs ≡ true → AllByRecursion (Same f g) xs
-parts_alike f g [] all none = tt
-parts_alike f g (x ∷ xs) all none =
-    let both = and_parts (starless x) (list_all starless xs) none in
-    (all.0 both.0, parts_alike f g xs all.1 both.1)
-
 pub starless_runs_alike : StarlessRunsAlike
 starless_runs_alike p m n x s none = by_form (λ x. starless x ≡ true → Same (ends p m) (ends p n) x) (record {
   act = λ a none s. ends_act p m a s ∙ sym (ends_act p n a s);
   test = λ x b none s. ends_test p m x b s ∙ sym (ends_test p n x b s);
   seq = λ parts all none s.
-    ends_seq p m parts s ∙ all_alike (ends p m) (ends p n) parts (parts_alike (ends p m) (ends p n) parts all (sym (starless_seq parts) ∙ none)) s ∙ sym (ends_seq p n parts s);
+    ends_seq p m parts s ∙ all_alike (ends p m) (ends p n) parts (all_passing starless (Same (ends p m) (ends p n)) parts all (sym (starless_seq parts) ∙ none)) s ∙ sym (ends_seq p n parts s);
   choice = λ parts all none s.
-    ends_choice p m parts s ∙ some_alike (ends p m) (ends p n) parts (parts_alike (ends p m) (ends p n) parts all (sym (starless_choice parts) ∙ none)) s ∙ sym (ends_choice p n parts s);
+    ends_choice p m parts s ∙ some_alike (ends p m) (ends p n) parts (all_passing starless (Same (ends p m) (ends p n)) parts all (sym (starless_choice parts) ∙ none)) s ∙ sym (ends_choice p n parts s);
   star = λ body same none s. absurd (false≢true (sym (starless_star body) ∙ none));
 }) x none s
 
 -- ## iterations written out
-
-map_twice : {A B C : Type 0} (f : B → C) (g : A → B) (xs : List A) → map f (map g xs) ≡ map (λ x. f (g x)) xs
-map_twice f g [] = refl
-map_twice f g (x ∷ xs) = ap (λ ys. f (g x) ∷ ys) (map_twice f g xs)
 
 -- turns written out are turns, whatever bound the body is run under
 repeated_ends : (p : Posed) (m : ℕ) (e : LastStates) (body : Prog) → ((s : DynState) → ends p m body s ≡ e s) → (k : ℕ) (s : DynState) → ends p m (repeated k body) s ≡ up_to k e s
@@ -88,7 +78,7 @@ unrolled_ends p m n = by_form (Same before (ends p n)) (record {
   act = λ a s. rw (unrolled_act n a) (ends_act p m a s ∙ sym (ends_act p n a s));
   test = λ x b s. rw (unrolled_test n x b) (ends_test p m x b s ∙ sym (ends_test p n x b s));
   seq = λ parts all s.
-    rw (unrolled_seq n parts) (ends_seq p m (map (unrolled n) parts) s ∙ ap (λ es. one_by_one es s) (map_twice (ends p m) (unrolled n) parts) ∙ all_alike before (ends p n) parts all s ∙ sym (ends_seq p n parts s));
+    rw (unrolled_seq n parts) (ends_seq p m (map (unrolled n) parts) s ∙ ap (λ es. one_by_one es s) (map-map (ends p m) (unrolled n) parts) ∙ all_alike before (ends p n) parts all s ∙ sym (ends_seq p n parts s));
   choice = λ parts all s.
     rw (unrolled_choice n parts) (ends_choice p m (map (unrolled n) parts) s ∙ flat_map-map (λ x. ends p m x s) (unrolled n) parts ∙ some_alike before (ends p n) parts all s ∙ sym (ends_choice p n parts s));
   star = λ body same s. rw (unrolled_star n body) (repeated_ends p m (ends p n body) (unrolled n body) same n s ∙ sym (ends_star p n body s));
@@ -121,19 +111,12 @@ repeated_kinded p kinds body fits zero = kinded_seq p kinds []
 repeated_kinded p kinds body fits (suc k) =
     kinded_choice p kinds (q.Seq [] ∷ q.Seq (body ∷ repeated k body ∷ []) ∷ []) ∙ rw (kinded_seq p kinds [], kinded_seq p kinds (body ∷ repeated k body ∷ []), fits, repeated_kinded p kinds body fits k) refl
 
--- the parts that fit still do, each changed
-kinds_pass : (test : Prog → Bool) (f : Prog → Prog) (xs : List Prog) → AllByRecursion (λ x. test x ≡ true → test (f x) ≡ true) xs → list_all test xs ≡ true → AllByRecursion (λ x. test (f x) ≡ true) xs
-kinds_pass test f [] all fits = tt
-kinds_pass test f (x ∷ xs) all fits =
-    let both = and_parts (test x) (list_all test xs) fits in
-    (all.0 both.0, kinds_pass test f xs all.1 both.1)
-
 pub unrolled_kinded : (p : Posed) (kinds : List Kind) (n : ℕ) (x : Prog) → is_kinded p kinds x ≡ true → is_kinded p kinds (unrolled n x) ≡ true
 unrolled_kinded p kinds n = by_form (λ x. is_kinded p kinds x ≡ true → is_kinded p kinds (unrolled n x) ≡ true) (record {
   act = λ a fits. ap (is_kinded p kinds) (unrolled_act n a) ∙ fits;
   test = λ x b fits. ap (is_kinded p kinds) (unrolled_test n x b) ∙ fits;
-  seq = λ parts all fits. ap (is_kinded p kinds) (unrolled_seq n parts) ∙ kinded_seq p kinds (map (unrolled n) parts) ∙ parts_pass (is_kinded p kinds) (unrolled n) parts (kinds_pass (is_kinded p kinds) (unrolled n) parts all (sym (kinded_seq p kinds parts) ∙ fits));
-  choice = λ parts all fits. ap (is_kinded p kinds) (unrolled_choice n parts) ∙ kinded_choice p kinds (map (unrolled n) parts) ∙ parts_pass (is_kinded p kinds) (unrolled n) parts (kinds_pass (is_kinded p kinds) (unrolled n) parts all (sym (kinded_choice p kinds parts) ∙ fits));
+  seq = λ parts all fits. ap (is_kinded p kinds) (unrolled_seq n parts) ∙ kinded_seq p kinds (map (unrolled n) parts) ∙ parts_pass (is_kinded p kinds) (unrolled n) parts (all_passing (is_kinded p kinds) (λ x. is_kinded p kinds (unrolled n x) ≡ true) parts all (sym (kinded_seq p kinds parts) ∙ fits));
+  choice = λ parts all fits. ap (is_kinded p kinds) (unrolled_choice n parts) ∙ kinded_choice p kinds (map (unrolled n) parts) ∙ parts_pass (is_kinded p kinds) (unrolled n) parts (all_passing (is_kinded p kinds) (λ x. is_kinded p kinds (unrolled n x) ≡ true) parts all (sym (kinded_choice p kinds parts) ∙ fits));
   star = λ body same fits. ap (is_kinded p kinds) (unrolled_star n body) ∙ repeated_kinded p kinds (unrolled n body) (same (sym (kinded_star p kinds body) ∙ fits)) n;
 })
 

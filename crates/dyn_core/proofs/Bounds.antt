@@ -1,29 +1,19 @@
 -- What the bound on turns changes: more turns allow every run that fewer allow.
-use Rattle.std.proofs.Common.{◌≡◌, ◌↔◌, ℕ, zero, suc, ◌+◌, ◌≤◌, ◌<◌, List, [], ◌∷◌, length, subst, arith}
-use Rattle.std.specs.Prelude.{Any, Contains, replicate, slice_index_or}
+use Rattle.std.proofs.Common.{◌≡◌, ◌↔◌, ℕ, zero, suc, ◌+◌, ◌≤◌, List, [], ◌∷◌, arith}
+use Rattle.std.specs.Prelude.{Any, replicate}
 use Rattle.std.specs.List.{AllByRecursion}
-use Rattle.std.proofs.lemmas.List.Elements.{All-from_recursion}
 use Rattle.heap_core.specs.Posed.{Posed}
 use Rattle.dyn_core.specs.declared.prog.Prog.{Prog}
 use Rattle.dyn_core.specs.declared.prog.Prog.TheVariants as q
 use Rattle.dyn_core.specs.declared.state.DynState.{DynState}
 use Rattle.dyn_core.specs.Runs.{RunUpTo, Run}
 use Rattle.dyn_core.specs.Laws.{Chain, ByCases, RunsByCases}
-use Rattle.dyn_core.proofs.Induction.{Forms, by_form}
+use Rattle.dyn_core.proofs.Induction.{Forms, by_form, all_each, all_copies, at_any}
 use Rattle.dyn_core.proofs.Cases.{cases_up_to}
 
 -- every run under a bound is one under each greater bound
 abbrev pub Grows : Posed → Prog → Type 0
 Grows p x = (m n : ℕ) (s t : DynState) → m ≤ n → RunUpTo p m x s t → RunUpTo p n x s t
-
--- what holds of each program holds of all parts, and of all copies of one
-pub all_each : (P : Prog → Type 0) → ((x : Prog) → P x) → (xs : List Prog) → AllByRecursion P xs
-all_each P each [] = tt
-all_each P each (x ∷ xs) = (each x, all_each P each xs)
-
-pub all_copies : (P : Prog → Type 0) (x : Prog) → P x → (k : ℕ) → AllByRecursion P (replicate k x)
-all_copies P x is zero = tt
-all_copies P x is (suc k) = (is, all_copies P x is k)
 
 chain_more : (p : Posed) (m n : ℕ) → m ≤ n → (parts : List Prog) → AllByRecursion (Grows p) parts → (s t : DynState) → Chain (RunUpTo p m) parts s t → Chain (RunUpTo p n) parts s t
 chain_more p m n few [] all s t is = is
@@ -31,8 +21,7 @@ chain_more p m n few (x ∷ parts) all s t c = (c.0, all.0 m n s c.0 few c.1, ch
 
 branch_more : (p : Posed) (m n : ℕ) → m ≤ n → (parts : List Prog) → AllByRecursion (Grows p) parts → (s t : DynState) → Any (λ x. RunUpTo p m x s t) parts → Any (λ x. RunUpTo p n x s t) parts
 branch_more p m n few parts all s t a =
-    let grows : Grows p a.1 = subst (Grows p) a.3 (All-from_recursion (Grows p) parts all a.0 a.1 a.2) in
-    (a.0, a.1, a.2, a.3, grows m n s t few a.4)
+    (a.0, a.1, a.2, a.3, at_any (Grows p) parts all a m n s t few a.4)
 
 pub more_turns : (p : Posed) (x : Prog) → Grows p x
 more_turns p = by_form (Grows p) (record {

@@ -1,7 +1,9 @@
 -- What holds of each program: by its form, where it holds of the parts.
-use Rattle.std.proofs.Common.{ℕ, Bool, List, [], ◌∷◌, subst}
-use Rattle.std.specs.Prelude.{map}
-use Rattle.std.specs.List.{AllByRecursion}
+use Rattle.std.proofs.Common.{◌≡◌, ℕ, zero, suc, Bool, true, List, [], ◌∷◌, subst}
+use Rattle.std.specs.Prelude.{map, replicate, Any}
+use Rattle.std.specs.List.{list_all, AllByRecursion}
+use Rattle.std.proofs.lemmas.Bool.{and_parts}
+use Rattle.std.proofs.lemmas.List.Elements.{All-from_recursion}
 use Rattle.dyn_core.specs.declared.prog.Act.{Act}
 use Rattle.dyn_core.specs.declared.prog.Prog.{Prog, ind-Prog, roll-Prog, map-Prog}
 use Rattle.dyn_core.specs.declared.prog.Prog.TheOpen.{Prog-F}
@@ -30,3 +32,26 @@ layer P f (Prog-F.Star x) = rw (q.rolls-Star x.0) (f.star x.0 x.1)
 -- it holds of each program
 pub by_form : (P : Prog → Type 0) → Forms P → (x : Prog) → P x
 by_form P f = ind-Prog P (λ x y is. subst (λ z. P (roll-Prog z)) is (layer P f y))
+
+-- ## lists of programs
+
+-- what holds of each program holds of all of a list
+pub all_each : (P : Prog → Type 0) → ((x : Prog) → P x) → (xs : List Prog) → AllByRecursion P xs
+all_each P each [] = tt
+all_each P each (x ∷ xs) = (each x, all_each P each xs)
+
+-- and of all copies of one
+pub all_copies : (P : Prog → Type 0) (x : Prog) → P x → (k : ℕ) → AllByRecursion P (replicate k x)
+all_copies P x is zero = tt
+all_copies P x is (suc k) = (is, all_copies P x is k)
+
+-- what holds of each of them that passes a test, where all pass
+pub all_passing : (test : Prog → Bool) (P : Prog → Type 0) (xs : List Prog) → AllByRecursion (λ x. test x ≡ true → P x) xs → list_all test xs ≡ true → AllByRecursion P xs
+all_passing test P [] all pass = tt
+all_passing test P (x ∷ xs) all pass =
+    let both = and_parts (test x) (list_all test xs) pass in
+    (all.0 both.0, all_passing test P xs all.1 both.1)
+
+-- what holds of all holds of the one of which something else does
+pub at_any : (P : Prog → Type 0) {Q : Prog → Type 0} (xs : List Prog) → AllByRecursion P xs → (a : Any Q xs) → P a.1
+at_any P xs all a = subst P a.3 (All-from_recursion P xs all a.0 a.1 a.2)

@@ -4,4 +4,6 @@ pub mod Members
 pub mod Cases
 pub mod Bounds
 pub mod Alike
+pub mod Vars
+mod Kept
 mod Rows
