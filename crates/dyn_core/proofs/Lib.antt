@@ -5,5 +5,5 @@ pub mod Cases
 pub mod Bounds
 pub mod Alike
 pub mod Vars
-mod Kept
+pub mod Kept
 mod Rows

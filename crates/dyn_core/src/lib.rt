@@ -2,8 +2,12 @@
 //! runs, their kinds, and their iterations written out.
 #![tactic(auto)]
 
+mod iterations;
+mod laws;
 mod prog;
 mod state;
 
+pub use iterations::unroll;
+pub use laws::{runs_by_cases, runs_keep_kinds, starless_runs_alike};
 pub use prog::{Act, Prog};
 pub use state::DynState;
