@@ -59,9 +59,9 @@ starless_runs_alike p m n x s none = by_form (λ x. starless x ≡ true → Same
   act = λ a none s. ends_act p m a s ∙ sym (ends_act p n a s);
   test = λ x b none s. ends_test p m x b s ∙ sym (ends_test p n x b s);
   seq = λ parts all none s.
-    ends_seq p m parts s ∙ all_alike (ends p m) (ends p n) parts (all_passing starless (Same (ends p m) (ends p n)) parts all (sym (starless_seq parts) ∙ none)) s ∙ sym (ends_seq p n parts s);
+      ends_seq p m parts s ∙ all_alike (ends p m) (ends p n) parts (all_passing starless (Same (ends p m) (ends p n)) parts all (sym (starless_seq parts) ∙ none)) s ∙ sym (ends_seq p n parts s);
   choice = λ parts all none s.
-    ends_choice p m parts s ∙ some_alike (ends p m) (ends p n) parts (all_passing starless (Same (ends p m) (ends p n)) parts all (sym (starless_choice parts) ∙ none)) s ∙ sym (ends_choice p n parts s);
+      ends_choice p m parts s ∙ some_alike (ends p m) (ends p n) parts (all_passing starless (Same (ends p m) (ends p n)) parts all (sym (starless_choice parts) ∙ none)) s ∙ sym (ends_choice p n parts s);
   star = λ body same none s. absurd (false≢true (sym (starless_star body) ∙ none));
 }) x none s
 
@@ -78,9 +78,9 @@ unrolled_ends p m n = by_form (Same before (ends p n)) (record {
   act = λ a s. rw (unrolled_act n a) (ends_act p m a s ∙ sym (ends_act p n a s));
   test = λ x b s. rw (unrolled_test n x b) (ends_test p m x b s ∙ sym (ends_test p n x b s));
   seq = λ parts all s.
-    rw (unrolled_seq n parts) (ends_seq p m (map (unrolled n) parts) s ∙ ap (λ es. one_by_one es s) (map-map (ends p m) (unrolled n) parts) ∙ all_alike before (ends p n) parts all s ∙ sym (ends_seq p n parts s));
+      rw (unrolled_seq n parts) (ends_seq p m (map (unrolled n) parts) s ∙ ap (λ es. one_by_one es s) (map-map (ends p m) (unrolled n) parts) ∙ all_alike before (ends p n) parts all s ∙ sym (ends_seq p n parts s));
   choice = λ parts all s.
-    rw (unrolled_choice n parts) (ends_choice p m (map (unrolled n) parts) s ∙ flat_map-map (λ x. ends p m x s) (unrolled n) parts ∙ some_alike before (ends p n) parts all s ∙ sym (ends_choice p n parts s));
+      rw (unrolled_choice n parts) (ends_choice p m (map (unrolled n) parts) s ∙ flat_map-map (λ x. ends p m x s) (unrolled n) parts ∙ some_alike before (ends p n) parts all s ∙ sym (ends_choice p n parts s));
   star = λ body same s. rw (unrolled_star n body) (repeated_ends p m (ends p n body) (unrolled n body) same n s ∙ sym (ends_star p n body s));
 })
   where

@@ -30,8 +30,8 @@ more_turns p = by_form (Grows p) (record {
   seq = λ parts all m n s t few r. ((cases_up_to p n).seq parts s t).1 (chain_more p m n few parts all s t (((cases_up_to p m).seq parts s t).0 r));
   choice = λ parts all m n s t few r. ((cases_up_to p n).choice parts s t).1 (branch_more p m n few parts all s t (((cases_up_to p m).choice parts s t).0 r));
   star = λ body grows m n s t few r.
-    let c = ((cases_up_to p m).star body s t).0 r in
-    ((cases_up_to p n).star body s t).1 (c.0, at_most c.0 m n c.1 few, chain_more p m n few (replicate c.0 body) (all_copies (Grows p) body grows c.0) s t c.2);
+      let c = ((cases_up_to p m).star body s t).0 r in
+      ((cases_up_to p n).star body s t).1 (c.0, at_most c.0 m n c.1 few, chain_more p m n few (replicate c.0 body) (all_copies (Grows p) body grows c.0) s t c.2);
 })
   where
     at_most : (k m n : ℕ) → k ≤ m → m ≤ n → k ≤ n

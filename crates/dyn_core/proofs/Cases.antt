@@ -88,6 +88,7 @@ cases_up_to p n = record {
         (λ c. (flag_is b (var_at s.vars x) (both.0 c).0, (both.0 c).1), λ is. both.1 (ap (is_value (Flag b)) is.0 ∙ is_flag b, is.1))
 
     chosen : (parts : List Prog) (s t : DynState) → Contains (flat_map (λ x. ends p n x s) parts) t ↔ Any (λ x. RunUpTo p n x s t) parts
-    chosen parts s t =
-        (λ c. let r = contains_flat (λ x. ends p n x s) parts t c in (r.there.0, r.from, r.there.1, r.there.2, r.to),
-        λ a. flat_contains (λ x. ends p n x s) parts a.1 t (a.0, a.2, a.3) a.4)
+    chosen parts s t = (
+      λ c. let r = contains_flat (λ x. ends p n x s) parts t c in (r.there.0, r.from, r.there.1, r.there.2, r.to),
+      λ a. flat_contains (λ x. ends p n x s) parts a.1 t (a.0, a.2, a.3) a.4,
+    )

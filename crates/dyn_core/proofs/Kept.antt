@@ -291,11 +291,11 @@ runs_keep_kinds p kinds x s t well fits has run = by_form (λ x. is_kinded p kin
   act = λ a fits s t has run. act_keeps_kinds p kinds well a s t (sym (kinded_act p kinds a) ∙ fits) has (((cases_of_run p).act a s t).0 run);
   test = λ x b fits s t has run. subst (λ z. KeepsKinds p kinds s z) (((cases_of_run p).test x b s t).0 run).1 (stays p kinds s has);
   seq = λ parts all fits s t has run.
-    chain_keeps p kinds parts (all_passing (is_kinded p kinds) (Keeping p kinds) parts all (sym (kinded_seq p kinds parts) ∙ fits)) s t has (((cases_of_run p).seq parts s t).0 run);
+      chain_keeps p kinds parts (all_passing (is_kinded p kinds) (Keeping p kinds) parts all (sym (kinded_seq p kinds parts) ∙ fits)) s t has (((cases_of_run p).seq parts s t).0 run);
   choice = λ parts all fits s t has run.
-    let a = ((cases_of_run p).choice parts s t).0 run in
-    at_any (Keeping p kinds) parts (all_passing (is_kinded p kinds) (Keeping p kinds) parts all (sym (kinded_choice p kinds parts) ∙ fits)) a s t has a.4;
+      let a = ((cases_of_run p).choice parts s t).0 run in
+      at_any (Keeping p kinds) parts (all_passing (is_kinded p kinds) (Keeping p kinds) parts all (sym (kinded_choice p kinds parts) ∙ fits)) a s t has a.4;
   star = λ body keeping fits s t has run.
-    let c = ((cases_of_run p).star body s t).0 run in
-    chain_keeps p kinds (replicate c.0 body) (all_copies (Keeping p kinds) body (keeping (sym (kinded_star p kinds body) ∙ fits)) c.0) s t has c.2;
+      let c = ((cases_of_run p).star body s t).0 run in
+      chain_keeps p kinds (replicate c.0 body) (all_copies (Keeping p kinds) body (keeping (sym (kinded_star p kinds body) ∙ fits)) c.0) s t has c.2;
 }) x fits s t has run

@@ -6,6 +6,8 @@ mod iterations;
 mod laws;
 mod prog;
 mod state;
+#[cfg(test)]
+mod tests;
 
 pub use iterations::unroll;
 pub use laws::{runs_by_cases, runs_keep_kinds, starless_runs_alike};

@@ -1,5 +1,6 @@
 use heap_core::Value;
 use sqlite_items::{Boxed, Items};
+use std::mem::size_of;
 
 /// One action on the variables and the heap. A variable is named by its number, and the one that is
 /// set stands first, but for `Write`.
@@ -24,6 +25,11 @@ pub enum Act {
     /// A variable is set to a new object of the class of this number.
     Make(u16, u8),
 }
+
+// A program may have some million nodes, so that a node is to be small.
+const _: () = prove!(size_of::<Act>() <= 16);
+
+const _: () = prove!(size_of::<Prog>() <= 32);
 
 /// A program of DynAlloy.
 #[derive(Drop)]
