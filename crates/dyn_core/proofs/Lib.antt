@@ -5,5 +5,6 @@ pub mod Cases
 pub mod Bounds
 pub mod Alike
 pub mod Vars
+pub mod Fitting
 pub mod Kept
 mod Rows
