@@ -4,6 +4,7 @@ pub mod Members
 pub mod Cases
 pub mod Bounds
 pub mod Alike
+pub mod Unrolling
 pub mod Vars
 pub mod Fitting
 pub mod Kept

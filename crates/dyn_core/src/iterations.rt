@@ -26,18 +26,18 @@ fn copy(alloc: Global, prog: &Prog) -> Result<Prog, NoMemory>
 {
     match prog {
         Prog::Act(act) => Ok(Prog::Act(*act)),
-        Prog::Test(flag, wanted) => Ok(Prog::Test(*flag, *wanted)),
+        Prog::Test(flag, value) => Ok(Prog::Test(*flag, *value)),
         Prog::Seq(parts) => {
-            let all = copies(alloc, parts.as_slice())?;
-            Ok(Prog::Seq(all))
+            let parts = copies(alloc, parts.as_slice())?;
+            Ok(Prog::Seq(parts))
         }
-        Prog::Choice(parts) => {
-            let all = copies(alloc, parts.as_slice())?;
-            Ok(Prog::Choice(all))
+        Prog::Choice(branches) => {
+            let branches = copies(alloc, branches.as_slice())?;
+            Ok(Prog::Choice(branches))
         }
         Prog::Star(body) => {
-            let copied = copy(alloc, body.get())?;
-            let body = Boxed::new(alloc, copied)?;
+            let body = copy(alloc, body.get())?;
+            let body = Boxed::new(alloc, body)?;
             Ok(Prog::Star(body))
         }
     }
@@ -102,29 +102,31 @@ fn written_out(alloc: Global, prog: &Prog, turns: u8) -> Result<Prog, NoMemory>
         Prog::Act(act) => Ok(Prog::Act(*act)),
         Prog::Test(flag, wanted) => Ok(Prog::Test(*flag, *wanted)),
         Prog::Seq(parts) => {
-            let all = all_written_out(alloc, parts.as_slice(), turns)?;
-            Ok(Prog::Seq(all))
+            let parts = all_written_out(alloc, parts.as_slice(), turns)?;
+            Ok(Prog::Seq(parts))
         }
-        Prog::Choice(parts) => {
-            let all = all_written_out(alloc, parts.as_slice(), turns)?;
-            Ok(Prog::Choice(all))
+        Prog::Choice(branches) => {
+            let branches = all_written_out(alloc, branches.as_slice(), turns)?;
+            Ok(Prog::Choice(branches))
         }
         Prog::Star(_) if turns == 0 => Ok(Prog::Seq(Items::new(alloc))),
         Prog::Star(body) => {
             let once = written_out(alloc, body.get(), turns)?;
             let once = Boxed::new(alloc, once)?;
-            let all = repeat(alloc, once, turns)?;
-            Ok(all)
+            let repeated = repeat(alloc, once, turns)?;
+            Ok(repeated)
         }
     }
 }
 
-/// The program without iterations whose runs are the runs of `prog` in which each entry of an
-/// iteration takes at most `loops` turns. Where the kinds of `prog` fit, those of the result do.
+/// The program without iterations whose runs, under any bound, are the runs of `prog` in which each
+/// entry of an iteration takes at most `loops` turns. Where the kinds of `prog` fit, those of the
+/// result do.
 ///
-/// Linear in the result, in time and memory; a recursion goes as deep as programs are nested, and not
-/// by the length of a sequence. The call bounds nothing itself: an iteration writes its body `loops`
-/// times, and one that is nested four deep at 12 turns 20,736 times. Whoever calls it bounds that.
+/// Linear in the result, in time and memory. The recursion goes as deep as the result is nested, which
+/// an iteration is by two levels for each turn; a long sequence adds nothing to it. The call bounds
+/// nothing by itself: an iteration that is nested four deep is written 20,736 times at 12 turns, and
+/// callers are to bound that before.
 pub fn unroll(alloc: Global, prog: &Prog, loops: u8) -> Result<Prog, NoMemory>
     ensures { IfOk result (IsUnrolled loops prog.now) }
 {

@@ -1,6 +1,6 @@
 use Rattle.std.proofs.Common.{sym, subst}
 use Rattle.dyn_core.specs.Unrolled.{IsUnrolled}
-use Rattle.dyn_core.proofs.Alike.{is_unrolled}
+use Rattle.dyn_core.proofs.Unrolling.{is_unrolled}
 use Rattle.dyn_core.proofs.iterations.unroll.Goals as goal
 
 pub returns : goal.returns
