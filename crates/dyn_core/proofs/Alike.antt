@@ -52,11 +52,11 @@ starless_runs_alike p m n x s none = by_form (λ x. starless x ≡ true → Same
   act = λ a none s. ends_act p m a s ∙ sym (ends_act p n a s);
   test = λ x b none s. ends_test p m x b s ∙ sym (ends_test p n x b s);
   seq = λ parts all none s.
-    let each = all_passing starless (Same before after) parts all (sym (starless_seq parts) ∙ none) in
-    ends_seq p m parts s ∙ all_alike before after parts each s ∙ sym (ends_seq p n parts s);
+      let each = all_passing starless (Same before after) parts all (sym (starless_seq parts) ∙ none) in
+      ends_seq p m parts s ∙ all_alike before after parts each s ∙ sym (ends_seq p n parts s);
   choice = λ parts all none s.
-    let each = all_passing starless (Same before after) parts all (sym (starless_choice parts) ∙ none) in
-    ends_choice p m parts s ∙ some_alike before after parts each s ∙ sym (ends_choice p n parts s);
+      let each = all_passing starless (Same before after) parts all (sym (starless_choice parts) ∙ none) in
+      ends_choice p m parts s ∙ some_alike before after parts each s ∙ sym (ends_choice p n parts s);
   star = λ body same none s. absurd (false≢true (sym (starless_star body) ∙ none));
 }) x none s
   where

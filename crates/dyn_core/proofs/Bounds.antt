@@ -59,11 +59,26 @@ pub cases_of_run : (p : Posed) → ByCases p (λ k. Unit {0}) (Run p)
 cases_of_run p = record {
   act = λ a s t. (λ r. ((cases_up_to p r.0).act a s t).0 r.1, λ is. (0, ((cases_up_to p 0).act a s t).1 is));
   test = λ x b s t. (λ r. ((cases_up_to p r.0).test x b s t).0 r.1, λ is. (0, ((cases_up_to p 0).test x b s t).1 is));
-  seq = λ parts s t. (λ r. chain_runs p r.0 parts s t (((cases_up_to p r.0).seq parts s t).0 r.1), λ c. let d = runs_chain p parts s t c in (d.0, ((cases_up_to p d.0).seq parts s t).1 d.1));
-  choice = λ parts s t. (λ r. let a = ((cases_up_to p r.0).choice parts s t).0 r.1 in (a.0, a.1, a.2, a.3, (r.0, a.4)), λ a. (a.4.0, ((cases_up_to p a.4.0).choice parts s t).1 (a.0, a.1, a.2, a.3, a.4.1)));
-  star = λ body s t. (λ r. let c = ((cases_up_to p r.0).star body s t).0 r.1 in (c.0, tt, chain_runs p r.0 (replicate c.0 body) s t c.2), λ c. turned body s t c.0 c.2);
+  seq = λ parts s t. (λ r. chain_runs p r.0 parts s t (((cases_up_to p r.0).seq parts s t).0 r.1), λ c. ordered parts s t c);
+  choice = λ parts s t. (λ r. branch parts s t r.0 r.1, λ a. (a.4.0, ((cases_up_to p a.4.0).choice parts s t).1 (a.0, a.1, a.2, a.3, a.4.1)));
+  star = λ body s t. (λ r. turns body s t r.0 r.1, λ c. turned body s t c.0 c.2);
 }
   where
+    ordered : (parts : List Prog) (s t : DynState) → Chain (Run p) parts s t → Run p (q.Seq parts) s t
+    ordered parts s t c =
+        let d = runs_chain p parts s t c in
+        (d.0, ((cases_up_to p d.0).seq parts s t).1 d.1)
+
+    branch : (parts : List Prog) (s t : DynState) (n : ℕ) → RunUpTo p n (q.Choice parts) s t → Any (λ x. Run p x s t) parts
+    branch parts s t n run =
+        let a = ((cases_up_to p n).choice parts s t).0 run in
+        (a.0, a.1, a.2, a.3, (n, a.4))
+
+    turns : (body : Prog) (s t : DynState) (n : ℕ) → RunUpTo p n (q.Star body) s t → (k : ℕ) × Unit {0} × Chain (Run p) (replicate k body) s t
+    turns body s t n run =
+        let c = ((cases_up_to p n).star body s t).0 run in
+        (c.0, tt, chain_runs p n (replicate c.0 body) s t c.2)
+
     turned : (body : Prog) (s t : DynState) (k : ℕ) → Chain (Run p) (replicate k body) s t → Run p (q.Star body) s t
     turned body s t k c =
         let d = runs_chain p (replicate k body) s t c in

@@ -66,7 +66,9 @@ turns_ends p n body (suc m) s t c = elim (contains_cases s (flat_map (up_to m (e
 ends_turns : (p : Posed) (n : ℕ) (body : Prog) (m k : ℕ) (s t : DynState) → k ≤ m → Chain (RunUpTo p n) (replicate k body) s t → Contains (up_to m (ends p n body) s) t
 ends_turns p n body zero zero s t few is = (contains_one s t).1 is
 ends_turns p n body zero (suc k) s t few c = absurd (omega arith)
-ends_turns p n body (suc m) zero s t few is = subst (λ x. Contains (s ∷ flat_map (up_to m (ends p n body)) (ends p n body s)) x) is (contains_first s (flat_map (up_to m (ends p n body)) (ends p n body s)))
+ends_turns p n body (suc m) zero s t few is =
+    let later = flat_map (up_to m (ends p n body)) (ends p n body s) in
+    subst (λ x. Contains (s ∷ later) x) is (contains_first s later)
 ends_turns p n body (suc m) (suc k) s t few c =
     contains_later s (flat_map (up_to m (ends p n body)) (ends p n body s)) t
     (flat_contains (up_to m (ends p n body)) (ends p n body s) c.0 t c.1 (ends_turns p n body m k c.0 t (omega arith) c.2))

@@ -234,19 +234,19 @@ module _ (p : Posed) (kinds : List Kind) where
   keeps_kinds : IsWell p.unit → (x : Prog) → is_kinded p kinds x ≡ true → Keeping x
   keeps_kinds well = by_form (λ x. is_kinded p kinds x ≡ true → Keeping x) (record {
     act = λ a fits s t has run.
-      act_keeps_kinds well a s t (sym (kinded_act p kinds a) ∙ fits) has (((cases_of_run p).act a s t).0 run);
+        act_keeps_kinds well a s t (sym (kinded_act p kinds a) ∙ fits) has (((cases_of_run p).act a s t).0 run);
     test = λ x b fits s t has run. subst (λ z. KeepsKinds p kinds s z) (((cases_of_run p).test x b s t).0 run).1 (stays s has);
     seq = λ parts all fits s t has run.
-      let each = all_passing (is_kinded p kinds) Keeping parts all (sym (kinded_seq p kinds parts) ∙ fits) in
-      chain_keeps parts each s t has (((cases_of_run p).seq parts s t).0 run);
+        let each = all_passing (is_kinded p kinds) Keeping parts all (sym (kinded_seq p kinds parts) ∙ fits) in
+        chain_keeps parts each s t has (((cases_of_run p).seq parts s t).0 run);
     choice = λ parts all fits s t has run.
-      let each = all_passing (is_kinded p kinds) Keeping parts all (sym (kinded_choice p kinds parts) ∙ fits) in
-      let branch = ((cases_of_run p).choice parts s t).0 run in
-      at_any Keeping parts each branch s t has branch.4;
+        let each = all_passing (is_kinded p kinds) Keeping parts all (sym (kinded_choice p kinds parts) ∙ fits) in
+        let branch = ((cases_of_run p).choice parts s t).0 run in
+        at_any Keeping parts each branch s t has branch.4;
     star = λ body keeping fits s t has run.
-      let each : Keeping body = keeping (sym (kinded_star p kinds body) ∙ fits) in
-      let turns = ((cases_of_run p).star body s t).0 run in
-      chain_keeps (replicate turns.0 body) (all_copies Keeping body each turns.0) s t has turns.2;
+        let each : Keeping body = keeping (sym (kinded_star p kinds body) ∙ fits) in
+        let turns = ((cases_of_run p).star body s t).0 run in
+        chain_keeps (replicate turns.0 body) (all_copies Keeping body each turns.0) s t has turns.2;
   })
 
 pub runs_keep_kinds : RunsKeepKinds

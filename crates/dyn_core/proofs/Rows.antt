@@ -1,6 +1,6 @@
 -- Worked rows: programs with the last states of their runs.
-use Rattle.std.proofs.Common.{◌≡◌, ℕ, Bool, true, false, List, [], ◌∷◌, refl}
-use Rattle.std.specs.Prelude.{ℤ, pos}
+use Rattle.std.proofs.Common.{◌≡◌, ℕ, zero, suc, Bool, true, false, List, [], ◌∷◌, Some, refl, subst, arith}
+use Rattle.std.specs.Prelude.{ℤ, pos, slice_get}
 use Rattle.taco_unit.specs.declared.kind.Kind.{Kind}
 use Rattle.taco_unit.specs.declared.kind.Kind.TheVariants.{Int, Flag, Ref}
 use Rattle.taco_unit.specs.declared.unit.ClassDef.{ClassDef}
@@ -9,13 +9,16 @@ use Rattle.heap_core.specs.declared.value.Value.{Value}
 use Rattle.heap_core.specs.declared.value.Value.TheVariants as v
 use Rattle.heap_core.specs.declared.value.Object.{Object}
 use Rattle.heap_core.specs.Posed.{Posed}
+use Rattle.heap_core.specs.Start.{has_kind}
+use Rattle.heap_core.proofs.FieldLaws.{none_some, some_same}
 use Rattle.dyn_core.specs.declared.prog.Act.{Act}
 use Rattle.dyn_core.specs.declared.prog.Act.TheVariants.{Copy, Const, Sum, Same, Below, Read, Write, Make}
 use Rattle.dyn_core.specs.declared.prog.Prog.{Prog}
 use Rattle.dyn_core.specs.declared.prog.Prog.TheVariants as q
 use Rattle.dyn_core.specs.declared.state.DynState.{DynState}
+use Rattle.dyn_core.specs.States.{var_at}
 use Rattle.dyn_core.specs.Runs.{ends}
-use Rattle.dyn_core.specs.Kinds.{is_kinded}
+use Rattle.dyn_core.specs.Kinds.{is_kinded, HasKinds}
 use Rattle.dyn_core.specs.Unrolled.{unrolled}
 use Rattle.dyn_core.proofs.Forms.{ends_forms, kinded_forms, unrolled_forms}
 
@@ -119,6 +122,33 @@ filled_up = simp ends_forms refl
 -- the next of a node, set to itself and read
 written_and_read : ends (nodes 2) 3 (q.Seq (q.Act (Write 0 0 0) ∷ q.Act (Read 1 0 0) ∷ [])) alone ≡ state (v.Obj 0 ∷ v.Obj 0 ∷ v.Null ∷ []) (node (v.Obj 0) ∷ []) ∷ []
 written_and_read = simp ends_forms refl
+
+-- ## kinds: one kind on both sides of a copy and of a comparison, null of every class, the class of a field, and none
+-- for a variable without a kind
+of_one_kind : is_kinded (nodes 2) (Int ∷ Flag ∷ Ref 0 ∷ []) (q.Act (Copy 0 1)) ≡ false
+of_one_kind = simp kinded_forms refl
+
+null_fits : is_kinded (nodes 2) (Int ∷ Flag ∷ Ref 0 ∷ []) (q.Star (q.Seq (q.Act (Const 2 v.Null) ∷ q.Act (Same 1 2 2) ∷ []))) ≡ true
+null_fits = simp kinded_forms refl
+
+null_is_no_number : is_kinded (nodes 2) (Int ∷ Flag ∷ Ref 0 ∷ []) (q.Act (Const 0 v.Null)) ≡ false
+null_is_no_number = simp kinded_forms refl
+
+of_its_class : is_kinded (nodes 2) (Ref 1 ∷ Ref 0 ∷ []) (q.Act (Read 1 0 0)) ≡ false
+of_its_class = simp kinded_forms refl
+
+without_kind : is_kinded (nodes 2) [] (q.Act (Copy 0 0)) ≡ false
+without_kind = simp kinded_forms refl
+
+-- a state that has the kinds: @0 with no next, in a variable of its class
+alone_has_kinds : HasKinds (nodes 2) (Ref 0 ∷ Flag ∷ Ref 0 ∷ []) alone
+alone_has_kinds = record { vars = each; objects_whole = refl; few_objects = omega arith }
+  where
+    each : (x : ℕ) (k : Kind) → slice_get (Ref 0 ∷ Flag ∷ Ref 0 ∷ []) x ≡ Some k → has_kind 4 alone.objects k (var_at alone.vars x) ≡ true
+    each zero k at = subst (λ l. has_kind 4 alone.objects l (v.Obj 0) ≡ true) (some_same at) refl
+    each (suc zero) k at = subst (λ l. has_kind 4 alone.objects l (v.Flag true) ≡ true) (some_same at) refl
+    each (suc (suc zero)) k at = subst (λ l. has_kind 4 alone.objects l v.Null ≡ true) (some_same at) refl
+    each (suc (suc (suc x))) k at = absurd (none_some at)
 
 -- ## iterations written out: an inner one in each turn of the outer
 abbrev turn : Prog

@@ -32,13 +32,13 @@ unrolled_ends p m n = by_form (Same written (ends p n)) (record {
   act = λ a s. rw (f.unrolled_act n a) (f.ends_act p m a s ∙ sym (f.ends_act p n a s));
   test = λ x b s. rw (f.unrolled_test n x b) (f.ends_test p m x b s ∙ sym (f.ends_test p n x b s));
   seq = λ parts all s.
-    let each = ap (λ es. one_by_one es s) (map-map (ends p m) (unrolled n) parts) ∙ all_alike written (ends p n) parts all s in
-    rw (f.unrolled_seq n parts) (f.ends_seq p m (map (unrolled n) parts) s ∙ each ∙ sym (f.ends_seq p n parts s));
+      let each = ap (λ es. one_by_one es s) (map-map (ends p m) (unrolled n) parts) ∙ all_alike written (ends p n) parts all s in
+      rw (f.unrolled_seq n parts) (f.ends_seq p m (map (unrolled n) parts) s ∙ each ∙ sym (f.ends_seq p n parts s));
   choice = λ parts all s.
-    let each = flat_map-map (λ x. ends p m x s) (unrolled n) parts ∙ some_alike written (ends p n) parts all s in
-    rw (f.unrolled_choice n parts) (f.ends_choice p m (map (unrolled n) parts) s ∙ each ∙ sym (f.ends_choice p n parts s));
+      let each = flat_map-map (λ x. ends p m x s) (unrolled n) parts ∙ some_alike written (ends p n) parts all s in
+      rw (f.unrolled_choice n parts) (f.ends_choice p m (map (unrolled n) parts) s ∙ each ∙ sym (f.ends_choice p n parts s));
   star = λ body same s.
-    rw (f.unrolled_star n body) (repeated_ends p m (ends p n body) (unrolled n body) same n s ∙ sym (f.ends_star p n body s));
+      rw (f.unrolled_star n body) (repeated_ends p m (ends p n body) (unrolled n body) same n s ∙ sym (f.ends_star p n body s));
 })
   where
     written : Prog → LastStates
@@ -86,11 +86,11 @@ module _ (p : Posed) (kinds : List Kind) where
     act = λ a fits. rw (f.unrolled_act n a) fits;
     test = λ x b fits. rw (f.unrolled_test n x b) fits;
     seq = λ parts all fits.
-      let each = all_passing (is_kinded p kinds) (Fitting n) parts all (sym (f.kinded_seq p kinds parts) ∙ fits) in
-      rw (f.unrolled_seq n parts, f.kinded_seq p kinds (map (unrolled n) parts)) (parts_pass (is_kinded p kinds) (unrolled n) parts each);
+        let each = all_passing (is_kinded p kinds) (Fitting n) parts all (sym (f.kinded_seq p kinds parts) ∙ fits) in
+        rw (f.unrolled_seq n parts, f.kinded_seq p kinds (map (unrolled n) parts)) (parts_pass (is_kinded p kinds) (unrolled n) parts each);
     choice = λ parts all fits.
-      let each = all_passing (is_kinded p kinds) (Fitting n) parts all (sym (f.kinded_choice p kinds parts) ∙ fits) in
-      rw (f.unrolled_choice n parts, f.kinded_choice p kinds (map (unrolled n) parts)) (parts_pass (is_kinded p kinds) (unrolled n) parts each);
+        let each = all_passing (is_kinded p kinds) (Fitting n) parts all (sym (f.kinded_choice p kinds parts) ∙ fits) in
+        rw (f.unrolled_choice n parts, f.kinded_choice p kinds (map (unrolled n) parts)) (parts_pass (is_kinded p kinds) (unrolled n) parts each);
     star = λ body same fits. rw (f.unrolled_star n body) (repeated_kinded (unrolled n body) (same (sym (f.kinded_star p kinds body) ∙ fits)) n);
   })
 
@@ -100,8 +100,8 @@ pub is_unrolled : (n : ℕ) (x : Prog) → IsUnrolled n x (unrolled n x)
 is_unrolled n x = record {
   starless = unrolled_starless n x;
   runs = λ p m s t.
-    let same = unrolled_ends p m n x s in
-    (subst (λ ts. Contains ts t) same, subst (λ ts. Contains ts t) (sym same));
+      let same = unrolled_ends p m n x s in
+      (subst (λ ts. Contains ts t) same, subst (λ ts. Contains ts t) (sym same));
   kinds = λ p kinds fits. unrolled_kinded p kinds n x fits;
   value = refl;
 }
