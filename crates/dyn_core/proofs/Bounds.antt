@@ -1,5 +1,5 @@
 -- What the bound on turns changes: more turns allow every run that fewer allow.
-use Rattle.std.proofs.Common.{◌≡◌, ◌↔◌, ℕ, zero, suc, ◌+◌, ◌≤◌, List, [], ◌∷◌, arith}
+use Rattle.std.proofs.Common.{ℕ, ◌+◌, ◌≤◌, List, [], ◌∷◌, arith}
 use Rattle.std.specs.Prelude.{Any, replicate}
 use Rattle.std.specs.List.{AllByRecursion}
 use Rattle.heap_core.specs.Posed.{Posed}
@@ -8,7 +8,7 @@ use Rattle.dyn_core.specs.declared.prog.Prog.TheVariants as q
 use Rattle.dyn_core.specs.declared.state.DynState.{DynState}
 use Rattle.dyn_core.specs.Runs.{RunUpTo, Run}
 use Rattle.dyn_core.specs.Laws.{Chain, ByCases, RunsByCases}
-use Rattle.dyn_core.proofs.Induction.{Forms, by_form, all_each, all_copies, at_any}
+use Rattle.dyn_core.proofs.Induction.{by_form, all_each, all_copies, at_any}
 use Rattle.dyn_core.proofs.Cases.{cases_up_to}
 
 -- every run under a bound is one under each greater bound

@@ -1,18 +1,16 @@
 -- The runs by cases on the form of a program.
-use Rattle.std.proofs.Common.{◌≡◌, ◌↔◌, ℕ, zero, suc, ◌≤◌, Bool, true, false, List, [], ◌∷◌, Some, refl, sym, ap, ◌∙◌, subst, inl, inr, arith}
+use Rattle.std.proofs.Common.{◌≡◌, ◌↔◌, ℕ, zero, suc, ◌≤◌, Bool, true, false, List, [], ◌∷◌, refl, ap, ◌∙◌, subst, inl, inr, arith}
 use Rattle.std.specs.Prelude.{if◌then◌else◌, map, flat_map, Contains, Any, replicate}
 use Rattle.std.proofs.lemmas.Bool.{false≢true}
 use Rattle.heap_core.specs.declared.value.Value.{Value}
 use Rattle.heap_core.specs.declared.value.Value.TheVariants.{Null, Obj, Num, Flag}
 use Rattle.heap_core.specs.Posed.{Posed}
 use Rattle.heap_core.specs.Outcomes.{is_value}
-use Rattle.dyn_core.specs.declared.prog.Act.{Act}
 use Rattle.dyn_core.specs.declared.prog.Prog.{Prog}
-use Rattle.dyn_core.specs.declared.prog.Prog.TheVariants as q
 use Rattle.dyn_core.specs.declared.state.DynState.{DynState}
 use Rattle.dyn_core.specs.States.{var_at}
 use Rattle.dyn_core.specs.Actions.{acted}
-use Rattle.dyn_core.specs.Runs.{LastStates, passes, one_by_one, up_to, ends, RunUpTo}
+use Rattle.dyn_core.specs.Runs.{passes, one_by_one, up_to, ends, RunUpTo}
 use Rattle.dyn_core.specs.Laws.{Chain, ByCases}
 use Rattle.dyn_core.proofs.Forms.{ends_act, ends_test, ends_seq, ends_choice, ends_star}
 use Rattle.dyn_core.proofs.Members.{contains_none, contains_first, contains_later, contains_cases, contains_one, contains_option, contains_flat, flat_contains}

@@ -11,7 +11,6 @@ use Rattle.heap_core.specs.declared.value.Object.{Object}
 use Rattle.heap_core.specs.Posed.{Posed}
 use Rattle.heap_core.specs.Start.{has_kind}
 use Rattle.heap_core.proofs.FieldLaws.{none_some, some_same}
-use Rattle.dyn_core.specs.declared.prog.Act.{Act}
 use Rattle.dyn_core.specs.declared.prog.Act.TheVariants.{Copy, Const, Sum, Same, Below, Read, Write, Make}
 use Rattle.dyn_core.specs.declared.prog.Prog.{Prog}
 use Rattle.dyn_core.specs.declared.prog.Prog.TheVariants as q
