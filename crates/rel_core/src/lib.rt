@@ -1,0 +1,17 @@
+//! Relational formulas over a heap and program variables: their types, their meaning under a valuation, and
+//! what a valuation shows of heaps, starts and states.
+#![tactic(auto)]
+
+mod formula;
+mod indices;
+mod numbers;
+mod relation;
+mod sets;
+mod valuation;
+
+pub use formula::Formula;
+pub use indices::Indices;
+pub use numbers::NumExpr;
+pub use relation::{RelVar, What};
+pub use sets::RelExpr;
+pub use valuation::Valuation;
