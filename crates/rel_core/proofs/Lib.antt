@@ -1,3 +1,4 @@
 pub mod Read
 pub mod StatesShown
 pub mod StatesOf
+pub mod StartsShown
