@@ -4,6 +4,7 @@
 
 mod formula;
 mod indices;
+mod laws;
 mod numbers;
 mod relation;
 mod sets;
@@ -11,6 +12,7 @@ mod valuation;
 
 pub use formula::Formula;
 pub use indices::Indices;
+pub use laws::{heaps_are_read, starts_are_one};
 pub use numbers::NumExpr;
 pub use relation::{RelVar, What};
 pub use sets::RelExpr;
