@@ -137,9 +137,9 @@ unlisted u well c f lacks (Some d) there = among (position (λ g. g == f) d.fiel
         let at = position-Some (λ g. g == f) d.fields i 0 found in
         let listed : slice_get d.fields i ≡ Some f = slice_get-get_or d.fields i 0 at.0 ∙ ap Some (eqb-true (get_or d.fields i 0) f at.1) in
         let passes : option_map_or (λ d. d.class == c) (slice_get u.fields f) false ≡ true =
-            all_at (λ g. option_map_or (λ d. d.class == c) (slice_get u.fields g) false) (filter (λ g. option_map_or (λ d. d.class == c) (slice_get u.fields g) false) (range_with_len 0 (length u.fields))) i f
-            (all_filtered (λ g. option_map_or (λ d. d.class == c) (slice_get u.fields g) false) (range_with_len 0 (length u.fields)))
-            (ap (λ fs. slice_get fs i) (sym (well.classes c d there).lists_fields) ∙ listed)
+        all_at (λ g. option_map_or (λ d. d.class == c) (slice_get u.fields g) false) (filter (λ g. option_map_or (λ d. d.class == c) (slice_get u.fields g) false) (range_with_len 0 (length u.fields))) i f
+        (all_filtered (λ g. option_map_or (λ d. d.class == c) (slice_get u.fields g) false) (range_with_len 0 (length u.fields)))
+        (ap (λ fs. slice_get fs i) (sym (well.classes c d there).lists_fields) ∙ listed)
         in
         absurd (false≢true (sym (ap (λ x. option_map_or (λ d. d.class == c) x false) lacks) ∙ passes))
 

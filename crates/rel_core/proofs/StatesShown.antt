@@ -159,8 +159,8 @@ module _ (p : Posed) (kinds : Kinds) (s : State) (at : Indices) (well : IsWell p
     links = λ f d o v there link. link_shown f d o v d.kind there refl link;
   }
     where
-    class_there : (o : ℕ) (x : Object) → slice_get s.heap o ≡ Some x → class_at s.heap o ≡ Some x.class
-    class_there o x there = ap (option_map (λ (x : Object). x.class)) there
+      class_there : (o : ℕ) (x : Object) → slice_get s.heap o ≡ Some x → class_at s.heap o ≡ Some x.class
+      class_there o x there = ap (option_map (λ (x : Object). x.class)) there
 
   variable_shown : (x : ℕ) (k : Kind) → kinds x ≡ Some k → ShowsValue reading k (slot_relation at x) 0 (s.value x)
   variable_shown x k there =

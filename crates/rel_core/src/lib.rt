@@ -12,7 +12,7 @@ mod valuation;
 
 pub use formula::Formula;
 pub use indices::Indices;
-pub use laws::{heaps_are_read, starts_are_one};
+pub use laws::{heaps_are_read, starts_are_one, starts_are_shown, states_are_shown};
 pub use numbers::NumExpr;
 pub use relation::{RelVar, What};
 pub use sets::RelExpr;
