@@ -1,3 +1,5 @@
+pub mod Forms
+mod Building
 pub mod Read
 pub mod StatesShown
 pub mod StatesOf

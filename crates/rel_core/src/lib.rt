@@ -3,10 +3,13 @@
 #![tactic(auto)]
 
 mod formula;
+mod formula_builders;
 mod indices;
 mod laws;
+mod number_builders;
 mod numbers;
 mod relation;
+mod set_builders;
 mod sets;
 mod valuation;
 
