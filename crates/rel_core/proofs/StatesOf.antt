@@ -123,23 +123,23 @@ module _ (p : Posed) (kinds : Kinds) (r : RelVar) (o : ℕ) where
 
 -- ## what a state has
 
+-- the field is one of this class
+abbrev is_own : Parts → ℕ → ℕ → Bool
+is_own u c f = option_map_or (λ d. d.class == c) (slice_get u.fields f) false
+
 -- a field that the unit lacks has no place in a class
 unlisted : (u : Parts) → IsWell u → (c f : ℕ) → slice_get u.fields f ≡ None → (d : Option ClassDef) → slice_get u.classes c ≡ d → option_and_then (λ d. position (λ g. g == f) d.fields) d ≡ None
 unlisted u well c f lacks None there = refl
 unlisted u well c f lacks (Some d) there = among (position (λ g. g == f) d.fields) refl
   where
-    own : ℕ → Bool
-    own g = option_map_or (λ d. d.class == c) (slice_get u.fields g) false
-
     among : (i : Option ℕ) → position (λ g. g == f) d.fields ≡ i → i ≡ None
     among None found = refl
     among (Some i) found =
         let at = position-Some (λ g. g == f) d.fields i 0 found in
         let listed : slice_get d.fields i ≡ Some f = slice_get-get_or d.fields i 0 at.0 ∙ ap Some (eqb-true (get_or d.fields i 0) f at.1) in
-        let passes : option_map_or (λ d. d.class == c) (slice_get u.fields f) false ≡ true =
-        all_at (λ g. option_map_or (λ d. d.class == c) (slice_get u.fields g) false) (filter (λ g. option_map_or (λ d. d.class == c) (slice_get u.fields g) false) (range_with_len 0 (length u.fields))) i f
-        (all_filtered (λ g. option_map_or (λ d. d.class == c) (slice_get u.fields g) false) (range_with_len 0 (length u.fields)))
-        (ap (λ fs. slice_get fs i) (sym (well.classes c d there).lists_fields) ∙ listed)
+        let all : List ℕ = range_with_len 0 (length u.fields) in
+        let passes : is_own u c f ≡ true =
+        all_at (is_own u c) (filter (is_own u c) all) i f (all_filtered (is_own u c) all) (ap (λ fs. slice_get fs i) (sym (well.classes c d there).lists_fields) ∙ listed)
         in
         absurd (false≢true (sym (ap (λ x. option_map_or (λ d. d.class == c) x false) lacks) ∙ passes))
 
