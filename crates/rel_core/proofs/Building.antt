@@ -11,7 +11,7 @@ use Rattle.rel_core.specs.declared.numbers.NumExpr.TheVariants as n
 use Rattle.rel_core.specs.declared.formula.Formula.{Formula}
 use Rattle.rel_core.specs.declared.formula.Formula.TheVariants as f
 use Rattle.rel_core.specs.Uses.{Kinds, AsSet, AsNumber, AsFlag, AsClass, can_change, is_spread, is_sorted, is_sorted_number, is_sorted_set}
-use Rattle.rel_core.proofs.Forms.{sorted_set_join, sorted_set_reach, sorted_number_at, sorted_number_sum, sorted_number_diff, sorted_number_product, sorted_flag_at, sorted_subset, sorted_is_class, sorted_same_number, sorted_below, sorted_changed}
+use Rattle.rel_core.proofs.Forms.{sorted_set_join, sorted_set_reach, sorted_number_at, sorted_number_sum, sorted_number_diff, sorted_number_product, sorted_flag_at, sorted_subset, sorted_is_class, sorted_same_number, sorted_below, sorted_changed, sorted_same}
 
 pub sorted_join : (p : Posed) (kinds : Kinds) (e : RelExpr) (r : RelVar) → is_sorted_set p kinds e ≡ true → is_spread p kinds AsSet r ≡ true → is_sorted_set p kinds (s.Join e r) ≡ true
 sorted_join p kinds e r set relation = sorted_set_join p kinds e r ∙ and_from (is_sorted_set p kinds e) (is_spread p kinds AsSet r) set relation
@@ -48,3 +48,6 @@ sorted_order p kinds a b left right = sorted_below p kinds a b ∙ and_from (is_
 
 pub sorted_change : (p : Posed) (kinds : Kinds) (new : RelVar) (e : RelExpr) (given old : RelVar) → is_sorted_set p kinds e ≡ true → can_change p kinds new given old ≡ true → is_sorted p kinds (f.Changed new e given old) ≡ true
 sorted_change p kinds new e given old left right = sorted_changed p kinds new e given old ∙ and_from (is_sorted_set p kinds e) (can_change p kinds new given old) left right
+
+pub sorted_sameness : (p : Posed) (kinds : Kinds) (a b : Formula) → is_sorted p kinds a ≡ true → is_sorted p kinds b ≡ true → is_sorted p kinds (f.Same a b) ≡ true
+sorted_sameness p kinds a b left right = sorted_same p kinds a b ∙ and_from (is_sorted p kinds a) (is_sorted p kinds b) left right

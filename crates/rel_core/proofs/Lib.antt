@@ -1,5 +1,7 @@
 pub mod Forms
 mod Building
+mod Joining
+mod Ranges
 pub mod Read
 pub mod StatesShown
 pub mod StatesOf

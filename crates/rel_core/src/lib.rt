@@ -2,6 +2,7 @@
 //! what a valuation shows of heaps, starts and states.
 #![tactic(auto)]
 
+mod connectives;
 mod formula;
 mod formula_builders;
 mod indices;
