@@ -1,12 +1,12 @@
 -- The start that is shown is the one that is computed from its relations.
 use Rattle.std.proofs.Common.{◌≡◌, ℕ, zero, suc, ◌+◌, ◌-◌, ◌<◌, ◌≤◌, Bool, true, false, cond, List, [], ◌∷◌, ◌++◌, length, Option, Some, None, inl, inr, refl, sym, ap, subst, ◌∙◌, arith, get_or}
-use Rattle.std.specs.Prelude.{◌==◌, nat_lt, pos, slice_get, position, is_some, IsTrue, map, filter, count_by, option_map, if◌then◌else◌}
+use Rattle.std.specs.Prelude.{◌==◌, nat_lt, slice_get, position, is_some, map, filter, count_by, option_map, if◌then◌else◌}
 use Rattle.std.specs.List.{range_with_len, list_all, position_or_len}
 use Rattle.std.specs.List.Sorted.{IsStrictlyIncreasing}
 use Rattle.std.specs.Option.{option_map_or}
 use Rattle.std.specs.Cmp.Lexicographic.{pointwise}
 use Rattle.std.proofs.lemmas.Bool.{lt-ltb, le-ltb, ltb-true, false≢true, cases_eq, cases_lt, eq-eqb, eqb-true, ne_eqb, and_parts}
-use Rattle.std.proofs.lemmas.Option.{slice_get_within, none-some, same_Some, slice_get-get_or, get_or_from_slice_get, slice_get-map}
+use Rattle.std.proofs.lemmas.Option.{slice_get_within, slice_get-get_or, get_or_from_slice_get, slice_get-map}
 use Rattle.std.proofs.Math.Seq.{get_or-append_seam}
 use Rattle.std.proofs.lemmas.List.{length-map, get_or_append_left}
 use Rattle.std.proofs.lemmas.List.FromFn.{length-range_with_len, get_or-range_with_len, fill_by_all}
@@ -24,26 +24,26 @@ use Rattle.taco_unit.proofs.Lists.{append_last}
 use Rattle.heap_core.specs.declared.value.Value.{Value}
 use Rattle.heap_core.specs.declared.value.Value.TheVariants.{Null, Obj, Num, Flag}
 use Rattle.heap_core.specs.declared.value.Object.{Object}
-use Rattle.heap_core.specs.declared.value.Seen.{Seen}
-use Rattle.heap_core.specs.declared.value.Seen.TheVariants.{Is, Bad, Out}
+use Rattle.heap_core.specs.declared.value.Seen.TheVariants.{Is}
 use Rattle.heap_core.specs.declared.start.Start.{Start}
 use Rattle.heap_core.specs.Posed.{Posed}
-use Rattle.heap_core.specs.Outcomes.{is_value, value_in, is_null}
-use Rattle.heap_core.specs.Heap.{Heap, is_of, field, cell_of, place_of, declares, cell}
+use Rattle.heap_core.specs.Outcomes.{is_value, is_null}
+use Rattle.heap_core.specs.Heap.{Heap, is_of, field, place_of}
 use Rattle.heap_core.specs.Start.{has_kind, has_field_kind, is_whole, is_receiver, is_argument, method_of, Fits}
-use Rattle.heap_core.proofs.Lists.{all_at, beside, slice_get-append_left}
+use Rattle.heap_core.proofs.Lists.{all_at, slice_get-append_left}
 use Rattle.heap_core.proofs.GivenFields.{declares_own}
 use Rattle.rel_core.specs.declared.relation.RelVar.{RelVar}
 use Rattle.rel_core.specs.declared.indices.Indices.{Indices}
 use Rattle.rel_core.specs.Reading.{Reading, numbers_below, references, is_reference}
-use Rattle.rel_core.specs.Uses.{start_kinds, receiver_kinds}
-use Rattle.rel_core.specs.Shown.{ShowsValue, ShowsCell, ShowsHeap, ShowsState, ShowsStart, live_relation, class_relation, field_relation, slot_relation, natural, value_shown, first_reference, cells_shown, object_shown, heap_shown, variable_shown, arguments_shown, receiver_shown, start_of, state_of}
+use Rattle.rel_core.specs.Uses.{receiver_kinds}
+use Rattle.rel_core.specs.Shown.{ShowsValue, ShowsHeap, ShowsStart, live_relation, field_relation, slot_relation, value_shown, cells_shown, object_shown, heap_shown, variable_shown, arguments_shown, receiver_shown, start_of}
 use Rattle.rel_core.specs.Laws.{StartsAreOne}
 
 -- ## lists
 
 -- a list is the image of one that it goes beside, where each item is the image of its own
-beside_image : {A B : Type 0} (fits : A → B → Bool) (image : A → B) (xs : List A) (ys : List B) → pointwise fits xs ys ≡ true → ((i : ℕ) (x : A) (y : B) → slice_get xs i ≡ Some x → slice_get ys i ≡ Some y → fits x y ≡ true → y ≡ image x) → ys ≡ map image xs
+beside_image : {A B : Type 0} (fits : A → B → Bool) (image : A → B) (xs : List A) (ys : List B) → pointwise fits xs ys ≡ true
+    → ((i : ℕ) (x : A) (y : B) → slice_get xs i ≡ Some x → slice_get ys i ≡ Some y → fits x y ≡ true → y ≡ image x) → ys ≡ map image xs
 beside_image fits image [] [] all each = refl
 beside_image fits image [] (y ∷ ys) all each = absurd (false≢true all)
 beside_image fits image (x ∷ xs) [] all each = absurd (false≢true all)
@@ -69,7 +69,9 @@ only_place : (xs : List ℕ) → IsStrictlyIncreasing xs → (i f : ℕ) → sli
 only_place xs up i f there =
     let within : i < length xs = slice_get_within xs i f there in
     let here : get_or xs i 0 ≡ f = get_or_from_slice_get xs i f 0 there in
-    let before : (k : ℕ) → k < i → (get_or xs k 0 == f) ≡ false = λ k lower. ne_eqb (get_or xs k 0) f (λ same. absurd (omega (arith, same, here, AllPairs-from_increasing xs up k i 0 lower within))) in
+    let before : (k : ℕ) → k < i → (get_or xs k 0 == f) ≡ false =
+    λ k lower. ne_eqb (get_or xs k 0) f (λ same. absurd (omega (arith, same, here, AllPairs-from_increasing xs up k i 0 lower within)))
+    in
     let first : position_or_len (λ h. h == f) xs ≡ i = position_or_len_is (λ h. h == f) xs i 0 (omega arith) before (λ inside. eq-eqb (get_or xs i 0) f here) in
     rw (first, lt-ltb i (length xs) within) refl
 
@@ -89,7 +91,8 @@ count_below t n is a (suc k) few =
 
 -- ## values
 
-object_first : (t : Value → Bool) (o : ℕ) → ((u : Value) → t u ≡ is_value (Obj o) u) → (a k : ℕ) → a ≤ o → o < a + k → get_or (filter t (map Obj (range_with_len a k))) 0 Null ≡ Obj o
+object_first : (t : Value → Bool) (o : ℕ) → ((u : Value) → t u ≡ is_value (Obj o) u) → (a k : ℕ) → a ≤ o → o < a + k
+    → get_or (filter t (map Obj (range_with_len a k))) 0 Null ≡ Obj o
 object_first t o is a zero low high = absurd (omega arith)
 object_first t o is a (suc k) low high = elim (cases_eq o a) [
   | inl same ↦ rw (is (Obj a) ∙ eq-eqb o a same) (ap Obj (sym same))
@@ -108,109 +111,121 @@ value_is m kind.Int r o v shown = shown
 value_is m kind.Flag r o v shown = shown
 value_is m (kind.Ref c) r o v shown = sym (only_first (m.refs r o) m.objects v shown.0 shown.1)
 
+null_is : (v : Value) → is_null v ≡ true → v ≡ Null
+null_is Null is = refl
+null_is (Obj o) is = absurd (false≢true is)
+null_is (Num z) is = absurd (false≢true is)
+null_is (Flag b) is = absurd (false≢true is)
+
+given_same : {u v : Value} → Is u ≡ Is v → u ≡ v
+given_same is = cc
+
 -- ## objects
 
 module _ (u : Parts) (well : IsWell u) (w : ℕ) (heap : Heap) (m : Reading) (at : Indices) (shown : ShowsHeap u m at heap) where
-  given_same : {u v : Value} → Is u ≡ Is v → u ≡ v
-  given_same is = cc
+  -- a field that a class lists has its place there
+  placed : (c : ℕ) (d : ClassDef) → slice_get u.classes c ≡ Some d → (i f : ℕ) → slice_get d.fields i ≡ Some f → place_of u.classes c f ≡ Some i
+  placed c d class i f listed =
+      let numbered : IsStrictlyIncreasing (fields_of u c) = IsStrictlyIncreasing-filter _ (range_with_len 0 (length u.fields)) (rising 0 (length u.fields)) in
+      rw class (only_place d.fields (subst IsStrictlyIncreasing (sym (well.classes c d class).lists_fields) numbered) i f listed)
 
-  -- the class of an object declares each field that it lists, at the field's place
-  placed : (x : Object) (d : ClassDef) → slice_get u.classes x.class ≡ Some d → (i f : ℕ) → slice_get d.fields i ≡ Some f → place_of u.classes x.class f ≡ Some i
-  placed x d class i f listed =
-      let up : IsStrictlyIncreasing d.fields = subst IsStrictlyIncreasing (sym (well.classes x.class d class).lists_fields) (IsStrictlyIncreasing-filter _ (range_with_len 0 (length u.fields)) (rising 0 (length u.fields))) in
-      rw class (only_place d.fields up i f listed)
-
-  cell_is : (o : ℕ) (x : Object) (d : ClassDef) → slice_get heap o ≡ Some x → slice_get u.classes x.class ≡ Some d → (i f : ℕ) (v : Value) → slice_get d.fields i ≡ Some f → slice_get x.cells i ≡ Some v → has_field_kind u.fields w heap f v ≡ true → v ≡ option_map_or (λ g. value_shown m g.kind (field_relation at f) o) (slice_get u.fields f) Null
+  cell_is : (o : ℕ) (x : Object) (d : ClassDef) → slice_get heap o ≡ Some x → slice_get u.classes x.class ≡ Some d
+      → (i f : ℕ) (v : Value) → slice_get d.fields i ≡ Some f → slice_get x.cells i ≡ Some v → has_field_kind u.fields w heap f v ≡ true
+      → v ≡ option_map_or (λ g. value_shown m g.kind (field_relation at f) o) (slice_get u.fields f) Null
   cell_is o x d there class i f v listed stands = go (slice_get u.fields f) refl
     where
       place : place_of u.classes x.class f ≡ Some i
-      place = placed x d class i f listed
+      place = placed x.class d class i f listed
 
       gives : field u.classes heap f (Obj o) ≡ Is v
       gives = rw (there, place, stands) refl
 
-      go : (g : Option FieldDef) → slice_get u.fields f ≡ g → option_map_or (λ d. has_kind w heap d.kind v) g false ≡ true → v ≡ option_map_or (λ g. value_shown m g.kind (field_relation at f) o) g Null
+      go : (g : Option FieldDef) → slice_get u.fields f ≡ g → option_map_or (λ g. has_kind w heap g.kind v) g false ≡ true
+          → v ≡ option_map_or (λ g. value_shown m g.kind (field_relation at f) o) g Null
       go None is kinded = absurd (false≢true kinded)
       go (Some g) is kinded =
           let own : g.class ≡ x.class = eqb-true g.class x.class (sym (declares_own u well f g is x.class) ∙ ap is_some place) in
-          let here : is_of heap g.class o ≡ true = ap (λ y. option_map_or (λ x. x.class == g.class) y false) there ∙ eq-eqb x.class g.class (sym own) in
+          let here : is_of heap g.class o ≡ true = rw there (eq-eqb x.class g.class (sym own)) in
           let cell = shown.cells f g o is here in
           given_same (sym gives ∙ cell.is) ∙ value_is m g.kind (field_relation at f) o cell.value cell.shown
 
   object_is : (o : ℕ) (x : Object) → slice_get heap o ≡ Some x → is_whole u w heap x ≡ true → x ≡ object_shown u m at o
   object_is o x there whole = rw (shown.classes o x there) (go (slice_get u.classes x.class) refl whole)
     where
-      go : (d : Option ClassDef) → slice_get u.classes x.class ≡ d → option_map_or (λ d. pointwise (has_field_kind u.fields w heap) d.fields x.cells) d false ≡ true
-        → x ≡ record { class = x.class; cells = option_map_or (cells_shown u m at o) d [] }
+      go : (d : Option ClassDef) → slice_get u.classes x.class ≡ d
+          → option_map_or (λ d. pointwise (has_field_kind u.fields w heap) d.fields x.cells) d false ≡ true
+          → x ≡ record { class = x.class; cells = option_map_or (cells_shown u m at o) d [] }
       go None class whole = absurd (false≢true whole)
       go (Some d) class whole =
-          let cells : x.cells ≡ cells_shown u m at o d = beside_image (has_field_kind u.fields w heap) _ d.fields x.cells whole (cell_is o x d there class) in
-          ap (λ cs. record { class = x.class; cells = cs }) cells
+          ap (λ cs. record { class = x.class; cells = cs }) (beside_image (has_field_kind u.fields w heap) _ d.fields x.cells whole (cell_is o x d there class))
 
   heap_is : list_all (is_whole u w heap) heap ≡ true → heap ≡ heap_shown u m at
-  heap_is whole =
-      let many : count_by (m.flag (live_relation at)) (numbers_below m.objects) ≡ length heap =
-      count_below (m.flag (live_relation at)) (length heap) shown.live 0 m.objects (omega (arith, shown.few)) ∙ omega arith
-      in
-      let none : Object = record { class = 0; cells = [] } in
-      rw many (fill_by_all (object_shown u m at) heap (length heap) none refl (λ o within.
-        let there : slice_get heap o ≡ Some (get_or heap o none) = slice_get-get_or heap o none within in
-        object_is o (get_or heap o none) there (all_at (is_whole u w heap) heap o (get_or heap o none) whole there)))
+  heap_is whole = rw many (fill_by_all (object_shown u m at) heap (length heap) none refl each)
+    where
+      none : Object
+      none = record { class = 0; cells = [] }
+
+      many : count_by (m.flag (live_relation at)) (numbers_below m.objects) ≡ length heap
+      many = count_below (m.flag (live_relation at)) (length heap) shown.live 0 m.objects (omega (arith, shown.few)) ∙ omega arith
+
+      each : (o : ℕ) → o < length heap → get_or heap o none ≡ object_shown u m at o
+      each o within =
+          let there : slice_get heap o ≡ Some (get_or heap o none) = slice_get-get_or heap o none within in
+          object_is o (get_or heap o none) there (all_at (is_whole u w heap) heap o (get_or heap o none) whole there)
 
 -- ## arguments and receiver
 
-module _ (p : Posed) (m : Reading) (at : Indices) (s : Start) (d : MethodDef) (called : method_of p ≡ Some d) (shown : ShowsStart p m at s) where
+module _ (p : Posed) (m : Reading) (at : Indices) (s : Start) (d : MethodDef) (called : method_of p ≡ Some d) (shown : ShowsStart p m at s)
+    (fits : pointwise (is_argument p.scope.ints s.objects) d.params s.args ≡ true) where
   -- the variable of this number is shown by its kind
   variable_is : (x : ℕ) (k : Kind) → slice_get (param_kinds d ++ receiver_kinds d) x ≡ Some k → get_or (s.args ++ s.this ∷ []) x Null ≡ variable_shown m at k x
   variable_is x k there = value_is m k (slot_relation at x) 0 _ (shown.values x k (rw called there))
 
-  argument_is : (fits : ParamDef → Value → Bool) → pointwise fits d.params s.args ≡ true → (x : ℕ) → x < length d.params → get_or s.args x Null ≡ option_map_or (λ q. variable_shown m at q.kind x) (slice_get d.params x) Null
-  argument_is fits all x within =
+  as_many : length s.args ≡ length d.params
+  as_many = beside_length (is_argument p.scope.ints s.objects) d.params s.args fits
+
+  kinds_too : length (param_kinds d) ≡ length d.params
+  kinds_too = length-map d.params (λ q. q.kind)
+
+  argument_is : (x : ℕ) → x < length d.params → get_or s.args x Null ≡ option_map_or (λ q. variable_shown m at q.kind x) (slice_get d.params x) Null
+  argument_is x within =
       let none : ParamDef = record { name = []; kind = kind.Int; nullable = true } in
       let q : ParamDef = get_or d.params x none in
       let there : slice_get d.params x ≡ Some q = slice_get-get_or d.params x none within in
-      let few : x < length (param_kinds d) = omega (arith, within, length-map d.params (λ q. q.kind)) in
-      let kind_is : slice_get (param_kinds d ++ receiver_kinds d) x ≡ Some q.kind =
-      slice_get-append_left (param_kinds d) (receiver_kinds d) x few ∙ slice_get-map (λ q. q.kind) d.params x ∙ ap (option_map (λ q. q.kind)) there
-      in
-      let before : x < length s.args = omega (arith, within, beside_length fits d.params s.args all) in
-      sym (get_or_append_left s.args (s.this ∷ []) Null x before) ∙ variable_is x q.kind kind_is ∙ sym (rw there refl)
+      let kind_there : slice_get (param_kinds d) x ≡ Some q.kind = slice_get-map (λ q. q.kind) d.params x ∙ ap (option_map (λ q. q.kind)) there in
+      let kind_is = slice_get-append_left (param_kinds d) (receiver_kinds d) x (omega (arith, within, kinds_too)) ∙ kind_there in
+      sym (get_or_append_left s.args (s.this ∷ []) Null x (omega (arith, within, as_many))) ∙ variable_is x q.kind kind_is ∙ sym (rw there refl)
 
-  arguments_are : (fits : ParamDef → Value → Bool) → pointwise fits d.params s.args ≡ true → s.args ≡ arguments_shown m at d
-  arguments_are fits all = fill_by_all _ s.args (length d.params) Null (beside_length fits d.params s.args all) (argument_is fits all)
+  arguments_are : s.args ≡ arguments_shown m at d
+  arguments_are = fill_by_all _ s.args (length d.params) Null as_many argument_is
 
-  receiver_is : (fits : ParamDef → Value → Bool) → pointwise fits d.params s.args ≡ true → is_receiver s.objects d.class d.fixed s.this ≡ true → s.this ≡ receiver_shown m at d
-  receiver_is fits all is = go d.fixed refl is
+  receiver_is : is_receiver s.objects d.class d.fixed s.this ≡ true → s.this ≡ receiver_shown m at d
+  receiver_is is = go d.fixed refl is
     where
-      null_is : (v : Value) → is_null v ≡ true → v ≡ Null
-      null_is Null is = refl
-      null_is (Obj o) is = absurd (false≢true is)
-      null_is (Num z) is = absurd (false≢true is)
-      null_is (Flag b) is = absurd (false≢true is)
+      behind : get_or (s.args ++ s.this ∷ []) (length d.params) Null ≡ s.this
+      behind = ap (λ x. get_or (s.args ++ s.this ∷ []) x Null) (sym as_many) ∙ get_or-append_seam s.args s.this [] Null
 
-      go : (b : Bool) → d.fixed ≡ b → is_receiver s.objects d.class b s.this ≡ true → s.this ≡ (if b then Null else variable_shown m at (kind.Ref d.class) (length d.params))
+      last : d.fixed ≡ false → slice_get (param_kinds d ++ receiver_kinds d) (length d.params) ≡ Some (kind.Ref d.class)
+      last instance = rw instance (ap (slice_get (param_kinds d ++ kind.Ref d.class ∷ [])) (sym kinds_too) ∙ append_last (param_kinds d) (kind.Ref d.class))
+
+      go : (b : Bool) → d.fixed ≡ b → is_receiver s.objects d.class b s.this ≡ true
+          → s.this ≡ (if b then Null else variable_shown m at (kind.Ref d.class) (length d.params))
       go true fixed is = null_is s.this is
-      go false fixed is =
-          let last : slice_get (param_kinds d ++ receiver_kinds d) (length d.params) ≡ Some (kind.Ref d.class) =
-          rw fixed (ap (slice_get (param_kinds d ++ kind.Ref d.class ∷ [])) (sym (length-map d.params (λ q. q.kind))) ∙ append_last (param_kinds d) (kind.Ref d.class))
-          in
-          let same : length d.params ≡ length s.args = sym (beside_length fits d.params s.args all) in
-          sym (ap (λ x. get_or (s.args ++ s.this ∷ []) x Null) same ∙ get_or-append_seam s.args s.this [] Null) ∙ variable_is (length d.params) (kind.Ref d.class) last
+      go false fixed is = sym behind ∙ variable_is (length d.params) (kind.Ref d.class) (last fixed)
 
 -- ## the start
 
 start_is : (p : Posed) (m : Reading) (at : Indices) (s : Start) → IsWell p.unit → Fits s p → ShowsStart p m at s → (d : Option MethodDef) → method_of p ≡ d
-  → option_map_or (λ m. is_receiver s.objects m.class m.fixed s.this) d false ≡ true
-  → option_map_or (λ m. pointwise (is_argument p.scope.ints s.objects) m.params s.args) d false ≡ true → s ≡ start_of p m at
+    → option_map_or (λ m. is_receiver s.objects m.class m.fixed s.this) d false ≡ true
+    → option_map_or (λ m. pointwise (is_argument p.scope.ints s.objects) m.params s.args) d false ≡ true → s ≡ start_of p m at
 start_is p m at s well fits shown None called receiver arguments = absurd (false≢true receiver)
 start_is p m at s well fits shown (Some d) called receiver arguments =
-    let heap : s.objects ≡ heap_shown p.unit m at = heap_is p.unit well p.scope.ints s.objects m at shown.heap fits.objects_whole in
-    let this : s.this ≡ receiver_shown m at d = receiver_is p m at s d called shown (is_argument p.scope.ints s.objects) arguments receiver in
-    let args : s.args ≡ arguments_shown m at d = arguments_are p m at s d called shown (is_argument p.scope.ints s.objects) arguments in
-    rw called (joined s (heap_shown p.unit m at) (receiver_shown m at d) (arguments_shown m at d) heap this args)
+    rw called (joined _ _ _ (heap_is p.unit well p.scope.ints s.objects m at shown.heap fits.objects_whole)
+    (receiver_is p m at s d called shown arguments receiver) (arguments_are p m at s d called shown arguments))
   where
-    joined : (s : Start) (heap : Heap) (this : Value) (args : List Value) → s.objects ≡ heap → s.this ≡ this → s.args ≡ args → s ≡ record { objects = heap; this = this; args = args }
-    joined s heap this args is_heap is_this is_args = rw (← is_heap, ← is_this, ← is_args) refl
+    joined : (heap : Heap) (this : Value) (args : List Value) → s.objects ≡ heap → s.this ≡ this → s.args ≡ args
+        → s ≡ record { objects = heap; this = this; args = args }
+    joined heap this args is_heap is_this is_args = rw (← is_heap, ← is_this, ← is_args) refl
 
 pub starts_are_one : StartsAreOne
 starts_are_one p m at s well range fits shown = start_is p m at s well fits shown (method_of p) refl fits.receiver fits.arguments
