@@ -3,6 +3,7 @@ mod Building
 mod Joining
 mod Ranges
 pub mod Read
+pub mod OneStart
 pub mod StatesShown
 pub mod StatesOf
 pub mod StartsShown

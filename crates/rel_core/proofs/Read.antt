@@ -1,25 +1,23 @@
--- What fields give in a heap that is shown.
-use Rattle.std.proofs.Common.{◌≡◌, ℕ, ◌<◌, ◌≤◌, Bool, true, false, not, ◌&&◌, List, [], length, Option, Some, None, inl, inr, refl, sym, ap, subst, ◌∙◌, arith}
-use Rattle.std.specs.Prelude.{◌==◌, nat_lt, pos, slice_get, position, IsTrue, IsFalse, option_and_then}
+-- A heap that is shown is read: its objects, and what fields give.
+use Rattle.std.proofs.Common.{◌≡◌, ℕ, Bool, true, false, not, [], length, Option, Some, None, inl, inr, refl, sym, ap, ◌∙◌}
+use Rattle.std.specs.Prelude.{◌==◌, nat_lt, pos, slice_get, is_some}
 use Rattle.std.specs.Ordering.{int_eq}
 use Rattle.std.specs.Option.{option_map_or}
-use Rattle.std.proofs.lemmas.Bool.{lt-ltb, le-ltb, ltb-true, false≢true, cases_eq, eq-eqb, ne_eqb, false_from_ne_true}
+use Rattle.std.proofs.lemmas.Bool.{lt-ltb, ltb-true, false≢true, cases_eq, eq-eqb, ne_eqb, false_from_ne_true}
 use Rattle.std.proofs.lemmas.Bool.Decides.{Decides-int_eq}
-use Rattle.std.proofs.lemmas.Option.{slice_get_within, slice_get_past, none-some, slice_get-get_or}
-use Rattle.taco_unit.specs.declared.unit.ClassDef.{ClassDef}
+use Rattle.std.proofs.lemmas.Option.{slice_get_within, none-some, slice_get-get_or}
 use Rattle.taco_unit.specs.declared.unit.FieldDef.{FieldDef}
 use Rattle.taco_unit.specs.Parts.{Parts}
 use Rattle.taco_unit.specs.Well.{IsWell}
-use Rattle.heap_core.specs.declared.value.Value.TheVariants.{Null, Obj}
 use Rattle.heap_core.specs.declared.value.Object.{Object}
-use Rattle.heap_core.specs.declared.value.Seen.TheVariants.{Is, Bad, Out}
+use Rattle.heap_core.specs.declared.value.Seen.TheVariants.{Out}
 use Rattle.heap_core.specs.Outcomes.{is_bad, value_in}
-use Rattle.heap_core.specs.Heap.{Heap, is_of, field, cell_of, place_of, cell}
+use Rattle.heap_core.specs.Heap.{Heap, is_of, cell_of, place_of, cell}
 use Rattle.heap_core.proofs.GivenFields.{declares_own}
 use Rattle.rel_core.specs.declared.indices.Indices.{Indices}
 use Rattle.rel_core.specs.Reading.{Reading}
-use Rattle.rel_core.specs.Shown.{ShowsCell, ShowsHeap, live_relation, class_relation, natural}
-use Rattle.rel_core.specs.Laws.{is_of_shown, FieldIsShown, HeapIsRead, HeapsAreRead}
+use Rattle.rel_core.specs.Shown.{ShowsHeap, live_relation, natural}
+use Rattle.rel_core.specs.Laws.{is_of_shown, HeapIsRead, HeapsAreRead}
 
 flipped : (a b : ℕ) → (a == b) ≡ (b == a)
 flipped a b = elim (cases_eq a b) [
@@ -35,7 +33,8 @@ same_naturals a b = elim (cases_eq a b) [
 ]
 
 -- which objects are there
-live_of : (m : Reading) (at : Indices) (heap : Heap) (o : ℕ) → ((o : ℕ) → m.flag (live_relation at) o ≡ nat_lt o (length heap)) → (x : Option Object) → slice_get heap o ≡ x
+live_of : (m : Reading) (at : Indices) (heap : Heap) (o : ℕ) → ((o : ℕ) → m.flag (live_relation at) o ≡ nat_lt o (length heap))
+    → (x : Option Object) → slice_get heap o ≡ x
     → m.flag (live_relation at) o ≡ option_map_or (λ x. true) x false
 live_of m at heap o live (Some x) there = live o ∙ lt-ltb o (length heap) (slice_get_within heap o x there)
 live_of m at heap o live None there = live o ∙ past (nat_lt o (length heap)) refl
@@ -63,16 +62,14 @@ module _ (u : Parts) (m : Reading) (at : Indices) (heap : Heap) (well : IsWell u
   missing f o None there = sym (ap not (live_of m at heap o shown.live None there))
 
   -- an object of another class does not declare the field
-  undeclared : (f : ℕ) (d : FieldDef) (x : Object) → slice_get u.fields f ≡ Some d → (x.class == d.class) ≡ false → (i : Option ℕ) → place_of u.classes x.class f ≡ i → cell u.classes f x ≡ None
+  undeclared : (f : ℕ) (d : FieldDef) (x : Object) → slice_get u.fields f ≡ Some d → (x.class == d.class) ≡ false
+      → (i : Option ℕ) → place_of u.classes x.class f ≡ i → cell u.classes f x ≡ None
   undeclared f d x there other None place = rw place refl
   undeclared f d x there other (Some i) place =
-      absurd (false≢true (sym other ∙ flipped x.class d.class ∙ sym (declares_own u well f d there x.class) ∙ ap is_there place))
-    where
-      is_there : Option ℕ → Bool
-      is_there (Some i) = true
-      is_there None = false
+      absurd (false≢true (sym other ∙ flipped x.class d.class ∙ sym (declares_own u well f d there x.class) ∙ ap is_some place))
 
-  other : (f : ℕ) (d : FieldDef) (o : ℕ) (x : Option Object) → slice_get u.fields f ≡ Some d → slice_get heap o ≡ x → m.flag (live_relation at) o ≡ true → is_of_shown m at d.class o ≡ false → cell_of u.classes f x ≡ Out
+  other : (f : ℕ) (d : FieldDef) (o : ℕ) (x : Option Object) → slice_get u.fields f ≡ Some d → slice_get heap o ≡ x
+      → m.flag (live_relation at) o ≡ true → is_of_shown m at d.class o ≡ false → cell_of u.classes f x ≡ Out
   other f d o (Some x) is there live not_of = ap value_in (undeclared f d x is (of_class d.class o (Some x) there ∙ not_of) (place_of u.classes x.class f) refl)
   other f d o None is there live not_of = absurd (false≢true (sym (live_of m at heap o shown.live None there) ∙ live))
 
