@@ -1,5 +1,5 @@
 -- A form is sorted where its parts are.
-use Rattle.std.proofs.Common.{◌≡◌, ℕ, ◌&&◌, true, List, ◌∙◌}
+use Rattle.std.proofs.Common.{◌≡◌, ℕ, true, List, ◌∙◌}
 use Rattle.std.specs.List.{list_all}
 use Rattle.std.proofs.lemmas.Bool.{and_from}
 use Rattle.heap_core.specs.Posed.{Posed}

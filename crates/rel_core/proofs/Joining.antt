@@ -1,8 +1,7 @@
 -- Connectives of two formulas, and of constants.
 use Rattle.std.proofs.Common.{◌≡◌, Bool, true, false, not, ◌&&◌, ◌||◌, List, [], ◌∷◌, refl, sym, ap, ◌∙◌}
-use Rattle.std.specs.List.{list_all, list_any}
+use Rattle.std.specs.List.{list_all}
 use Rattle.std.proofs.lemmas.Bool.{and_from}
-use Rattle.heap_core.specs.Outcomes.{same_flag}
 use Rattle.heap_core.specs.Posed.{Posed}
 use Rattle.rel_core.specs.declared.formula.Formula.{Formula}
 use Rattle.rel_core.specs.declared.formula.Formula.TheVariants.{Const, Not, And, Or}
@@ -45,3 +44,11 @@ opposite_of_opposite a m = sym (ap not (holds_not a m) ∙ not_not (holds a m))
 
 pub sorted_inside : (p : Posed) (kinds : Kinds) (a : Formula) → is_sorted p kinds (Not a) ≡ true → is_sorted p kinds a ≡ true
 sorted_inside p kinds a is = sym (sorted_not p kinds a) ∙ is
+
+-- ## of many parts
+
+pub sorted_conjunction : (p : Posed) (kinds : Kinds) (parts : List Formula) → list_all (is_sorted p kinds) parts ≡ true → is_sorted p kinds (And parts) ≡ true
+sorted_conjunction p kinds parts all = sorted_and p kinds parts ∙ all
+
+pub sorted_disjunction : (p : Posed) (kinds : Kinds) (parts : List Formula) → list_all (is_sorted p kinds) parts ≡ true → is_sorted p kinds (Or parts) ≡ true
+sorted_disjunction p kinds parts all = sorted_or p kinds parts ∙ all

@@ -4,14 +4,20 @@ use Rattle.std.specs.Prelude.{◌==◌, map, if◌then◌else◌, Bool, true, fa
 use Rattle.std.specs.List.{range_with_len}
 use Rattle.rel_core.specs.Shown.{slot_index}
 
-pub range_last : (a n : ℕ) → range_with_len a (n + 1) ≡ range_with_len a n ++ (a + n) ∷ []
-range_last a zero = ap (λ x. x ∷ []) (omega arith)
-range_last a (suc n) = ap (λ xs. a ∷ xs) (range_last (suc a) n) ∙ ap (λ x. a ∷ range_with_len (suc a) n ++ x ∷ []) (omega arith)
+range_last : (a n : ℕ) → range_with_len a (n + 1) ≡ range_with_len a n ++ (a + n) ∷ []
+range_last a zero = let e : a ≡ a + 0 = omega arith in ap (λ x. x ∷ []) e
+range_last a (suc n) =
+    let longer : suc n + 1 ≡ suc (n + 1) = omega arith in
+    let last : a + 1 + n ≡ a + suc n = omega arith in
+    ap (range_with_len a) longer ∙ ap (λ xs. a ∷ xs) (range_last (a + 1) n) ∙ ap (λ x. a ∷ (range_with_len (a + 1) n ++ x ∷ [])) last
 
-pub zeros : (n f : ℕ) → get_or (replicate n 0) f 0 ≡ 0
-zeros zero f = refl
-zeros (suc n) zero = refl
-zeros (suc n) (suc f) = zeros n f
+pub numbers_last : (n : ℕ) → range_with_len 0 (n + 1) ≡ range_with_len 0 n ++ n ∷ []
+numbers_last n = let e : 0 + n ≡ n = omega arith in range_last 0 n ∙ ap (λ x. range_with_len 0 n ++ x ∷ []) e
+
+pub all_alike : (z n f : ℕ) → get_or (replicate n z) f z ≡ z
+all_alike z zero f = refl
+all_alike z (suc n) zero = refl
+all_alike z (suc n) (suc f) = all_alike z n f
 
 pub indices_zero : (xs : List ℕ) (y : ℕ) → slot_index (map (λ x. (x, 0)) xs) y ≡ 0
 indices_zero [] y = refl

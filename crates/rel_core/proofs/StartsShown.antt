@@ -1,26 +1,25 @@
 -- States and starts are shown by their readings.
-use Rattle.std.proofs.Common.{◌≡◌, ℕ, zero, suc, Bool, true, false, ◌&&◌, List, [], ◌∷◌, ◌++◌, Option, Some, None, refl, sym, ap, subst, ◌∙◌, get_or}
-use Rattle.std.specs.Prelude.{slice_get, map, if◌then◌else◌, IsTrue}
-use Rattle.std.specs.List.{list_all}
+use Rattle.std.proofs.Common.{◌≡◌, ℕ, zero, suc, Bool, true, false, List, [], ◌∷◌, ◌++◌, Option, Some, None, refl, sym, ap, ◌∙◌, get_or}
+use Rattle.std.specs.Prelude.{slice_get, map, if◌then◌else◌}
 use Rattle.std.specs.Option.{option_map_or}
 use Rattle.std.specs.Cmp.Lexicographic.{pointwise}
 use Rattle.std.proofs.lemmas.Bool.{false≢true, and_parts}
-use Rattle.std.proofs.lemmas.Option.{same_Some, none-some, slice_get-get_or}
+use Rattle.std.proofs.lemmas.Option.{same_Some, none-some}
 use Rattle.taco_unit.specs.declared.kind.Kind.{Kind}
 use Rattle.taco_unit.specs.declared.kind.Kind.TheVariants as kind
 use Rattle.taco_unit.specs.declared.unit.MethodDef.{MethodDef}
 use Rattle.taco_unit.specs.declared.unit.ParamDef.{ParamDef}
-use Rattle.taco_unit.specs.Well.{IsWell, param_kinds}
+use Rattle.taco_unit.specs.Well.{param_kinds}
 use Rattle.heap_core.specs.declared.value.Value.{Value}
 use Rattle.heap_core.specs.declared.value.Value.TheVariants.{Null, Obj, Num, Flag}
 use Rattle.heap_core.specs.declared.start.Start.{Start}
-use Rattle.heap_core.specs.Posed.{Posed, InRange}
+use Rattle.heap_core.specs.Posed.{Posed}
 use Rattle.heap_core.specs.Heap.{Heap}
 use Rattle.heap_core.specs.Start.{Fits, has_kind, is_argument, is_receiver, method_of}
 use Rattle.rel_core.specs.Uses.{Kinds, start_kinds, receiver_kinds}
-use Rattle.rel_core.specs.Shown.{State, state_of}
-use Rattle.rel_core.specs.States.{IsState, reading_of_state, reading_of_start}
-use Rattle.rel_core.specs.Laws.{StateIsShown, StatesAreShown, StartIsShown, StartsAreShown}
+use Rattle.rel_core.specs.Shown.{state_of}
+use Rattle.rel_core.specs.States.{IsState}
+use Rattle.rel_core.specs.Laws.{StatesAreShown, StartsAreShown}
 use Rattle.rel_core.proofs.StatesShown.{state_shown}
 use Rattle.rel_core.proofs.StatesOf.{state_of_problem}
 

@@ -1,11 +1,11 @@
 -- The reading of a state is one of the problem.
-use Rattle.std.proofs.Common.{◌≡◌, ℕ, ◌<◌, ◌≤◌, Bool, true, false, not, ◌&&◌, ◌||◌, List, [], length, Option, Some, None, refl, sym, ap, subst, ◌∙◌, arith, get_or}
-use Rattle.std.specs.Prelude.{◌==◌, nat_lt, ℤ, pos, negsuc, if◌then◌else◌, slice_get, filter, position, option_and_then, option_map, IsTrue}
+use Rattle.std.proofs.Common.{◌≡◌, ℕ, ◌<◌, Bool, true, false, not, ◌&&◌, ◌||◌, List, length, Option, Some, None, refl, sym, ap, ◌∙◌, arith, get_or}
+use Rattle.std.specs.Prelude.{◌==◌, nat_lt, ℤ, pos, if◌then◌else◌, slice_get, filter, position, option_and_then, option_map}
 use Rattle.std.specs.Ordering.{int_eq}
-use Rattle.std.specs.List.{list_all, range_with_len}
+use Rattle.std.specs.List.{range_with_len}
 use Rattle.std.specs.Option.{option_map_or}
 use Rattle.std.proofs.lemmas.Bool.{lt-ltb, ltb-true, false≢true, and_parts, and_from, or_left, or_right, eqb-true}
-use Rattle.std.proofs.lemmas.Option.{slice_get_within, slice_get-get_or, none-some}
+use Rattle.std.proofs.lemmas.Option.{slice_get_within, slice_get-get_or}
 use Rattle.std.proofs.lemmas.List.Quantifiers.{position-Some}
 use Rattle.taco_unit.specs.declared.kind.Kind.{Kind}
 use Rattle.taco_unit.specs.declared.kind.Kind.TheVariants as kind
@@ -19,19 +19,19 @@ use Rattle.heap_core.specs.declared.value.Object.{Object}
 use Rattle.heap_core.specs.declared.value.Seen.{Seen}
 use Rattle.heap_core.specs.declared.value.Seen.TheVariants.{Is, Bad, Out}
 use Rattle.heap_core.specs.Posed.{Posed, InRange}
-use Rattle.heap_core.specs.Outcomes.{in_bits, is_value, gives, is_true, flag, value_in}
-use Rattle.heap_core.specs.Heap.{Heap, is_of, class_at, field, cell_of, place_of, cell}
+use Rattle.heap_core.specs.Outcomes.{in_bits, gives, is_true, flag, value_in}
+use Rattle.heap_core.specs.Heap.{Heap, is_of, field, cell_of}
 use Rattle.heap_core.specs.Start.{has_kind, is_whole}
 use Rattle.heap_core.proofs.Lists.{all_at, all_filtered}
-use Rattle.heap_core.proofs.GivenFields.{IsGiven, field_given, gives_kind}
+use Rattle.heap_core.proofs.GivenFields.{field_given, gives_kind}
 use Rattle.rel_core.specs.declared.relation.RelVar.{RelVar}
 use Rattle.rel_core.specs.declared.relation.What.{What}
 use Rattle.rel_core.specs.declared.relation.What.TheVariants as what
-use Rattle.rel_core.specs.Reading.{Reading, is_reference}
+use Rattle.rel_core.specs.Reading.{is_reference}
 use Rattle.rel_core.specs.Uses.{Kinds, Use, AsSet, AsNumber, AsFlag, AsClass, same_use, use_of_kind, use_of, has_use, is_slot, has_place, can_have, is_class_number, IsOf}
 use Rattle.rel_core.specs.Shown.{State}
 use Rattle.rel_core.specs.States.{IsState, seen_at, number_given, reading_of_state}
-use Rattle.rel_core.proofs.StatesShown.{object_below, given, kind_of_given}
+use Rattle.rel_core.proofs.StatesShown.{object_below, kind_of_given}
 
 -- ## what suits a place of a relation
 

@@ -1,11 +1,11 @@
 -- What formulas mean. (This project's own; the relational logic is Alloy's, "Software Abstractions", cut to sets of
 -- values, whole numbers of a given width, and what the translation of Java needs.)
-use Rattle.std.specs.Prelude.{ℕ, ◌==◌, ℤ, pos, ◌+ℤ◌, ◌-ℤ◌, ◌*ℤ◌, int_lt, Bool, true, false, not, ◌&&◌, ◌||◌, if◌then◌else◌, List, [], ◌∷◌, filter, count_by, Option, Some, None, is_some}
+use Rattle.std.specs.Prelude.{ℕ, ℤ, pos, ◌+ℤ◌, ◌-ℤ◌, ◌*ℤ◌, int_lt, Bool, false, not, ◌&&◌, ◌||◌, if◌then◌else◌, List, [], ◌∷◌, filter, count_by, Option, Some, None, is_some}
 use Rattle.std.specs.Ordering.{int_eq}
 use Rattle.std.specs.List.{list_all, list_any}
 use Rattle.std.specs.Option.{option_map_or}
 use Rattle.heap_core.specs.declared.value.Value.{Value}
-use Rattle.heap_core.specs.declared.value.Value.TheVariants.{Null, Obj}
+use Rattle.heap_core.specs.declared.value.Value.TheVariants.{Obj}
 use Rattle.heap_core.specs.Outcomes.{in_bits, is_null, is_object, same_flag}
 use Rattle.heap_core.specs.Closure.{closure}
 use Rattle.rel_core.specs.declared.relation.RelVar.{RelVar}

@@ -25,7 +25,7 @@ fn pair(
 }
 
 /// The conjunction of two formulas, as a form of its own.
-#[tactic(auto, using(crate::proofs::Joining::holds_pair, crate::proofs::Connectives::sorted_pair))]
+#[tactic(auto, using(crate::proofs::Joining::holds_pair, crate::proofs::Joining::sorted_pair))]
 fn conjunction(
     alloc: Global,
     left: Boxed<Formula>,
@@ -39,7 +39,7 @@ fn conjunction(
 }
 
 /// The disjunction of two formulas, as a form of its own.
-#[tactic(auto, using(crate::proofs::Joining::holds_either, crate::proofs::Connectives::sorted_either))]
+#[tactic(auto, using(crate::proofs::Joining::holds_either, crate::proofs::Joining::sorted_either))]
 fn disjunction(
     alloc: Global,
     left: Boxed<Formula>,
@@ -88,7 +88,7 @@ impl Formula {
     }
 
     /// The opposite. That of a constant is a constant, that of an opposite what it is the opposite of.
-    #[tactic(auto, using(crate::proofs::Joining::opposite_of_constant, crate::proofs::Connectives::opposite_of_opposite, crate::proofs::Connectives::sorted_inside))]
+    #[tactic(auto, using(crate::proofs::Joining::opposite_of_constant, crate::proofs::Joining::opposite_of_opposite, crate::proofs::Joining::sorted_inside))]
     pub fn not(alloc: Global, operand: Boxed<Formula>) -> Result<Boxed<Formula>, NoMemory>
         ensures meaning { IfOk result (λ r. (m : Reading) → holds r m ≡ not (holds operand m)) }
         ensures sorted { IfOk result (λ r. (p : Posed) (kinds : Kinds) → IsTrue (is_sorted p kinds operand) → IsTrue (is_sorted p kinds r)) }

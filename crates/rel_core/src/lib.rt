@@ -7,6 +7,7 @@ mod formula;
 mod formula_builders;
 mod indices;
 mod laws;
+mod lists;
 mod number_builders;
 mod numbers;
 mod relation;
