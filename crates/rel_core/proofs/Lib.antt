@@ -1,0 +1,9 @@
+pub mod Forms
+mod Building
+mod Joining
+mod Ranges
+pub mod Read
+pub mod OneStart
+pub mod StatesShown
+pub mod StatesOf
+pub mod StartsShown

@@ -1,0 +1,6 @@
+pub mod Reading
+pub mod Meaning
+pub mod Uses
+pub mod Shown
+pub mod States
+pub mod Laws
