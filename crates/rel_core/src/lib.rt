@@ -3,6 +3,7 @@
 #![tactic(auto)]
 
 mod connectives;
+mod copies;
 mod formula;
 mod formula_builders;
 mod indices;
