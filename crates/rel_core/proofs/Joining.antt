@@ -1,6 +1,6 @@
 -- Connectives of two formulas, and of constants.
 use Rattle.std.proofs.Common.{◌≡◌, Bool, true, false, not, ◌&&◌, ◌||◌, List, [], ◌∷◌, refl, sym, ap, ◌∙◌}
-use Rattle.std.specs.List.{list_all}
+use Rattle.std.specs.List.{list_all, list_any}
 use Rattle.std.proofs.lemmas.Bool.{and_from}
 use Rattle.heap_core.specs.Posed.{Posed}
 use Rattle.rel_core.specs.declared.formula.Formula.{Formula}
@@ -52,3 +52,18 @@ sorted_conjunction p kinds parts all = sorted_and p kinds parts ∙ all
 
 pub sorted_disjunction : (p : Posed) (kinds : Kinds) (parts : List Formula) → list_all (is_sorted p kinds) parts ≡ true → is_sorted p kinds (Or parts) ≡ true
 sorted_disjunction p kinds parts all = sorted_or p kinds parts ∙ all
+
+none_any : (h : Formula → Bool) (xs : List Formula) → list_all (λ a. not (h a)) xs ≡ not (list_any h xs)
+none_any h [] = refl
+none_any h (x ∷ xs) = ap (λ b. not (h x) && b) (none_any h xs) ∙ both_not (h x) (list_any h xs)
+  where
+    both_not : (a b : Bool) → (not a && not b) ≡ not (a || b)
+    both_not true b = refl
+    both_not false b = refl
+
+-- what is said of all opposites is said of some
+pub any_same : (h : Formula → Bool) (xs ys : List Formula) → list_all (λ a. not (h a)) xs ≡ list_all (λ a. not (h a)) ys → list_any h xs ≡ list_any h ys
+any_same h xs ys same = sym (not_not (list_any h xs)) ∙ ap not (sym (none_any h xs) ∙ same ∙ none_any h ys) ∙ not_not (list_any h ys)
+
+pub any_there : (h : Formula → Bool) (xs : List Formula) → list_all (λ a. not (h a)) xs ≡ false → list_any h xs ≡ true
+any_there h xs none = sym (not_not (list_any h xs)) ∙ ap not (sym (none_any h xs) ∙ none)

@@ -1,7 +1,10 @@
-use Rattle.std.proofs.Common.{ap, ◌∙◌}
+use Rattle.std.proofs.Common.{true, ◌∙◌}
 use Rattle.rel_core.specs.Uses.{is_sorted}
-use Rattle.rel_core.proofs.Joining.{sorted_conjunction}
+use Rattle.rel_core.proofs.Forms.{sorted_const}
 use Rattle.rel_core.proofs.formula.Formula.all.Goals as goal
 
-pub returns-clause-sorted : goal.returns-clause-sorted
-returns-clause-sorted c = λ p kinds all. ap (is_sorted p kinds) c.in_ok-new.ensures ∙ sorted_conjunction p kinds c.args.parts all
+pub returns-in_ok-never-clause-sorted : goal.returns-in_ok-never-clause-sorted
+returns-in_ok-never-clause-sorted c = λ p kinds parts. c.in_ok-never.ensures.sorted p kinds
+
+pub returns-in_ok-all-clause-sorted : goal.returns-in_ok-all-clause-sorted
+returns-in_ok-all-clause-sorted c = λ p kinds parts. c.in_ok-all.ensures.sorted p kinds (c.in_ok-open.ensures (is_sorted p kinds) (sorted_const p kinds true) ∙ parts)
