@@ -7,3 +7,4 @@ pub mod OneStart
 pub mod StatesShown
 pub mod StatesOf
 pub mod StartsShown
+pub mod Chain
