@@ -2,6 +2,8 @@ pub mod Forms
 mod Building
 mod Joining
 mod Ranges
+mod MarkedSets
+mod KeptSets
 pub mod Read
 pub mod OneStart
 pub mod StatesShown

@@ -4,3 +4,4 @@ pub mod Uses
 pub mod Shown
 pub mod States
 pub mod Laws
+pub mod Views

@@ -6,6 +6,7 @@ mod connectives;
 mod copies;
 mod formula;
 mod formula_builders;
+mod holds;
 mod indices;
 mod laws;
 mod lists;
@@ -14,6 +15,8 @@ mod numbers;
 mod relation;
 mod set_builders;
 mod sets;
+#[cfg(test)]
+mod tests;
 mod valuation;
 
 pub use formula::Formula;

@@ -1,0 +1,10 @@
+use Rattle.std.proofs.Common.{◌≡◌, ◌-◌, ◌&&◌}
+use Rattle.std.specs.List.{list_any, range_with_len}
+use Rattle.rel_core.specs.Reading.{numbers_below}
+use Rattle.rel_core.specs.Views.{read, is_marked}
+use Rattle.rel_core.proofs.holds.sets.is_joined.Given as goal
+
+abbrev pub invariant-loop-object : goal.invariant-loop-object
+invariant-loop-object l =
+    list_any (λ o. is_marked l.marks o && (read l.view).refs l.relation o l.value) (range_with_len l.object (l.view.objects - l.object))
+    ≡ list_any (λ o. is_marked l.marks o && (read l.view).refs l.relation o l.value) (numbers_below l.view.objects)
