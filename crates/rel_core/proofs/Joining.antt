@@ -67,3 +67,9 @@ any_same h xs ys same = sym (not_not (list_any h xs)) ∙ ap not (sym (none_any 
 
 pub any_there : (h : Formula → Bool) (xs : List Formula) → list_all (λ a. not (h a)) xs ≡ false → list_any h xs ≡ true
 any_there h xs none = sym (not_not (list_any h xs)) ∙ ap not (sym (none_any h xs) ∙ none)
+
+pub all_of_one : (h : Formula → Bool) (x : Formula) → list_all h (x ∷ []) ≡ h x
+all_of_one h x = and_true (h x)
+
+pub any_of_one : (h : Formula → Bool) (x : Formula) → list_any h (x ∷ []) ≡ h x
+any_of_one h x = or_false (h x)

@@ -51,22 +51,50 @@ fn without_constant(
     Ok(in_order)
 }
 
-/// All parts, as a form of its own.
-#[tactic(auto, using(crate::proofs::Forms::holds_and))]
+/// All parts: one part is itself, and of none this is true.
+#[tactic(auto, using(crate::proofs::Forms::holds_and, crate::proofs::Joining::all_of_one))]
 fn conjunction_of(alloc: Global, parts: Items<Formula>) -> Result<Boxed<Formula>, NoMemory>
     ensures meaning { IfOk result (λ r. (m : Reading) → holds r m ≡ list_all (λ a. holds a m) parts) }
     ensures sorted { IfOk result (λ r. (p : Posed) (kinds : Kinds) → IsTrue (list_all (is_sorted p kinds) parts) → IsTrue (is_sorted p kinds r)) }
 {
-    Ok(Boxed::new(alloc, Formula::And(parts))?)
+    let mut left = parts;
+    match left.pop() {
+        None => {
+            let constant = Formula::constant(alloc, true)?;
+            Ok(constant)
+        }
+        Some(last) => {
+            if left.is_empty() {
+                Ok(Boxed::new(alloc, last)?)
+            } else {
+                left.push(last)?;
+                Ok(Boxed::new(alloc, Formula::And(left))?)
+            }
+        }
+    }
 }
 
-/// Some part, as a form of its own.
-#[tactic(auto, using(crate::proofs::Forms::holds_or))]
+/// Some part: one part is itself, and of none this is false.
+#[tactic(auto, using(crate::proofs::Forms::holds_or, crate::proofs::Joining::any_of_one))]
 fn disjunction_of(alloc: Global, parts: Items<Formula>) -> Result<Boxed<Formula>, NoMemory>
     ensures meaning { IfOk result (λ r. (m : Reading) → holds r m ≡ list_any (λ a. holds a m) parts) }
     ensures sorted { IfOk result (λ r. (p : Posed) (kinds : Kinds) → IsTrue (list_all (is_sorted p kinds) parts) → IsTrue (is_sorted p kinds r)) }
 {
-    Ok(Boxed::new(alloc, Formula::Or(parts))?)
+    let mut left = parts;
+    match left.pop() {
+        None => {
+            let constant = Formula::constant(alloc, false)?;
+            Ok(constant)
+        }
+        Some(last) => {
+            if left.is_empty() {
+                Ok(Boxed::new(alloc, last)?)
+            } else {
+                left.push(last)?;
+                Ok(Boxed::new(alloc, Formula::Or(left))?)
+            }
+        }
+    }
 }
 
 /// Connectives of any number of formulas, without the constants among them. Each call is linear in the
