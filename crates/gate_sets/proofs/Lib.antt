@@ -1,0 +1,5 @@
+pub mod Standing
+pub mod Places
+pub mod Rowwise
+pub mod Several
+pub mod Paths

@@ -1,0 +1,22 @@
+use Rattle.std.proofs.Common.{◌≡◌, ℕ, ◌+◌, ◌-◌, ◌*◌, ◌<◌, ◌≤◌, Bool, false, not, ◌&&◌, ◌||◌, length, replicate}
+use Rattle.std.specs.Prelude.{◌==◌}
+use Rattle.std.specs.List.{list_all, list_any, range_with_len}
+use Rattle.gate_core.specs.Circuit.{IsOf, Keeps}
+use Rattle.gate_arith.specs.Numbers.{differ}
+use Rattle.gate_arith.specs.Operations.{IsTruth}
+use Rattle.gate_sets.specs.Lists.{at, in_row, AreTruths, AreRows}
+use Rattle.gate_sets.specs.Shapes.{has_object, any_row, are_many, is_only, edges}
+use Rattle.gate_sets.proofs.graphs.closed.Given as goal
+
+use Rattle.gate_sets.proofs.Paths.{paths_of}
+
+abbrev pub invariant-loop-steps : goal.invariant-loop-steps
+invariant-loop-steps l = record {
+  keeps : Keeps l.fn.gates l.gates;
+  steps : 0 < l.steps;
+  few : l.steps ≤ 510;
+  paths : AreRows l.gates l.count l.count (paths_of l.count l.fn.gates l.graph l.steps) l.paths.items;
+}
+
+abbrev pub decreases-loop-steps : goal.decreases-loop-steps
+decreases-loop-steps l = l.count - l.steps

@@ -1,0 +1,29 @@
+-- One row more.
+use Rattle.std.proofs.Common.{◌≡◌, ℕ, ◌+◌, ◌-◌, ◌*◌, ◌<◌, ◌≤◌, Bool, true, false, not, ◌&&◌, ◌||◌, [], ◌∷◌, ◌++◌, length, get_or, drop, All, refl, sym, subst, ap, ◌∙◌, arith}
+use Rattle.std.specs.Prelude.{◌==◌, if◌then◌else◌}
+use Rattle.std.specs.List.{list_all, list_any, range_with_len}
+use Rattle.gate_core.specs.Circuit.{value, IsOf, Keeps}
+use Rattle.gate_core.proofs.Values.{keeps_twice}
+use Rattle.gate_arith.specs.Numbers.{differ}
+use Rattle.gate_arith.specs.Operations.{IsTruth}
+use Rattle.gate_sets.specs.Lists.{at, in_row, AreTruths, AreRows}
+use Rattle.gate_sets.specs.Shapes.{has_object, any_row, are_many, is_only, edges, objects_only}
+use Rattle.heap_core.specs.Closure.{closure}
+use Rattle.gate_core.proofs.Values.{keeps_same}
+use Rattle.gate_sets.proofs.Places.{rows_more}
+use Rattle.gate_sets.proofs.Rowwise.{first_row_of}
+use Rattle.gate_sets.proofs.graphs.first_steps.Goals as goal
+
+pub loop-place-preserved : goal.loop-place-preserved
+loop-place-preserved c =
+    let nodes = c.args.gates.now in
+    let graph = c.args.graph.now in
+    let count = c.args.count in
+    let place = c.loop-place.place in
+    let row = c.row-list.result.now in
+    let next = c.in_ok-next.next.items in
+    let below : place < count = omega arith in
+    subst (λ gs. AreRows nodes (place + 1) count (λ (inputs : ℕ → Bool) (p o : ℕ). o == p || in_row count nodes graph inputs p o) gs)
+    (sym (c.in_ok-extend_from_slice.ensures.items ∙ ap (λ gs. c.loop-place.all.items ++ gs) c.deref.ensures.value))
+    (rows_more nodes nodes place count (λ (inputs : ℕ → Bool) (p o : ℕ). o == p || in_row count nodes graph inputs p o) c.loop-place.all.items next c.loop-place.invariant (keeps_same nodes nodes refl)
+    (first_row_of nodes graph row next count (length row) place c.requires.graph c.requires.square below c.row-list.ensures.wide c.row-list.ensures.gates c.in_ok-next.ensures))
