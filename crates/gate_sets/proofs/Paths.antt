@@ -1,17 +1,16 @@
 -- The closure of a graph by squaring: steps of a graph, and what they become.
-use Rattle.std.proofs.Common.{◌≡◌, ℕ, zero, suc, ◌+◌, ◌-◌, ◌*◌, ◌<◌, ◌≤◌, Bool, true, false, ◌&&◌, ◌||◌, List, [], ◌∷◌, length, drop, All, refl, sym, subst, ap, ◌∙◌, arith}
+use Rattle.std.proofs.Common.{◌≡◌, ℕ, zero, suc, ◌+◌, ◌-◌, ◌<◌, ◌≤◌, Bool, true, false, ◌&&◌, ◌||◌, List, ◌∷◌, drop, refl, sym, ap, ◌∙◌, arith}
 use Rattle.std.specs.Prelude.{◌==◌, nat_lt}
 use Rattle.std.specs.List.{list_any, range_with_len}
 use Rattle.std.proofs.lemmas.Bool.{and_parts, and_from, eqb-true, eq-eqb, lt-ltb}
 use Rattle.std.proofs.lemmas.List.Elements.{All-cons}
 use Rattle.gate_core.specs.declared.circuit.Node.{Node}
-use Rattle.gate_core.specs.Circuit.{value, IsOf, Keeps}
-use Rattle.gate_core.proofs.Values.{keeps_twice}
+use Rattle.gate_core.specs.Circuit.{value, IsOf}
 use Rattle.heap_core.specs.Closure.{Graph, rounds, closure}
 use Rattle.heap_core.proofs.Closure.{any_below, any_in, rounds_end, rounds_of_sum, rounds_of_members}
 use Rattle.gate_sets.specs.Lists.{at, in_row, AreTruths, AreRows}
 use Rattle.gate_sets.specs.Shapes.{has_object, any_row, edges, objects_only}
-use Rattle.gate_sets.proofs.Standing.{any_row_alike, rows_alike, truths_alike, after_first}
+use Rattle.gate_sets.proofs.Standing.{any_row_alike, rows_alike, truths_alike}
 use Rattle.gate_sets.proofs.Several.{iff}
 
 -- ## what rounds from one object give

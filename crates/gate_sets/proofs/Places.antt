@@ -1,5 +1,5 @@
 -- Lists of gates that grow place by place, and tests of one place more.
-use Rattle.std.proofs.Common.{◌≡◌, ℕ, zero, suc, ◌+◌, ◌-◌, ◌*◌, ◌<◌, Bool, true, false, ◌&&◌, ◌||◌, List, [], ◌∷◌, ◌++◌, length, get_or, All, refl, sym, subst, ap, ◌∙◌, arith, inl, inr, length-append}
+use Rattle.std.proofs.Common.{◌≡◌, ℕ, zero, suc, ◌+◌, ◌*◌, ◌<◌, Bool, true, false, ◌&&◌, ◌||◌, List, [], ◌∷◌, ◌++◌, length, get_or, refl, sym, subst, ap, ◌∙◌, arith, inl, inr, length-append}
 use Rattle.std.specs.List.{list_all, list_any, range_with_len}
 use Rattle.std.proofs.lemmas.Bool.{cases_lt}
 use Rattle.std.proofs.lemmas.List.{get_or_append_left, get_or-append-add, get_or_at}
@@ -9,7 +9,7 @@ use Rattle.gate_core.specs.declared.circuit.Node.{Node}
 use Rattle.gate_core.specs.Circuit.{value, IsOf, Keeps}
 use Rattle.gate_core.proofs.Values.{all_more}
 use Rattle.gate_arith.specs.Operations.{IsTruth}
-use Rattle.gate_sets.specs.Lists.{at, in_row, AreTruths, AreRows}
+use Rattle.gate_sets.specs.Lists.{AreTruths, AreRows}
 use Rattle.gate_sets.proofs.Standing.{at_keeps, in_rows, rows_keep}
 
 -- ## tests of numbers

@@ -1,12 +1,12 @@
 -- One row of many: what is read from it, and what is made of it.
-use Rattle.std.proofs.Common.{◌≡◌, ℕ, ◌+◌, ◌-◌, ◌*◌, ◌<◌, ◌≤◌, Bool, ◌||◌, List, length, get_or, take, drop, All, refl, sym, subst, ap, ◌∙◌, arith, length-drop}
+use Rattle.std.proofs.Common.{◌≡◌, ℕ, ◌+◌, ◌*◌, ◌<◌, ◌≤◌, Bool, ◌||◌, List, length, get_or, take, drop, All, refl, subst, ap, ◌∙◌, arith, length-drop}
 use Rattle.std.specs.Prelude.{◌==◌}
 use Rattle.std.proofs.lemmas.List.{get_or-take, get_or-drop, length-take-le}
 use Rattle.std.proofs.lemmas.List.Elements.{All-take, All-drop}
 use Rattle.gate_core.specs.declared.circuit.Node.{Node}
 use Rattle.gate_core.specs.Circuit.{value, IsOf, Keeps}
 use Rattle.gate_core.proofs.Values.{keeps_same}
-use Rattle.gate_sets.specs.Lists.{at, in_row, AreTruths, AreRows}
+use Rattle.gate_sets.specs.Lists.{at, in_row, AreTruths}
 use Rattle.gate_sets.specs.Shapes.{has_object, any_row, is_only}
 use Rattle.gate_sets.proofs.Standing.{rows_keep, truths_alike, any_row_alike, after_first}
 

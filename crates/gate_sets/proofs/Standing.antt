@@ -1,7 +1,6 @@
 -- Gates of lists that stand keep their truth.
-use Rattle.std.proofs.Common.{◌≡◌, ℕ, ◌+◌, ◌-◌, ◌*◌, ◌<◌, ◌≤◌, Bool, true, false, ◌||◌, ◌&&◌, List, length, get_or, take, drop, All, refl, sym, subst, ap, ◌∙◌, arith}
+use Rattle.std.proofs.Common.{◌≡◌, ℕ, ◌+◌, ◌*◌, ◌<◌, Bool, true, false, ◌&&◌, List, length, get_or, drop, All, refl, sym, subst, ap, ◌∙◌, arith}
 use Rattle.std.specs.Prelude.{if◌then◌else◌}
-use Rattle.std.specs.List.{list_any, range_with_len}
 use Rattle.std.proofs.lemmas.List.{get_or-map}
 use Rattle.std.proofs.lemmas.Grind.{get_or_default_zero, get_or_after_one}
 use Rattle.std.proofs.lemmas.Nat.{mul-add-lt}
@@ -11,7 +10,7 @@ use Rattle.gate_core.proofs.Values.{of_more}
 use Rattle.gate_arith.specs.Operations.{bits, IsTruth, IsSelected}
 use Rattle.heap_core.proofs.Closure.{any_alike}
 use Rattle.gate_sets.specs.Lists.{at, in_row, AreTruths, AreRows}
-use Rattle.gate_sets.specs.Shapes.{has_object, any_row}
+use Rattle.gate_sets.specs.Shapes.{any_row}
 
 -- a gate that is read from a list is one of the circuit
 pub read_of : (nodes : List Node) (gates : List ℕ) (i x : ℕ) → All (IsOf nodes) gates → i < length gates → x ≡ get_or gates i x → IsOf nodes x

@@ -1,11 +1,11 @@
 -- Sets of references, relations between objects and graphs, where so many objects are looked at: a set is its tests,
 -- first of null and then of the objects in order. (This project's own.)
-use Rattle.std.specs.Prelude.{ℕ, ◌+◌, ◌-◌, ◌*◌, ◌==◌, nat_lt, Bool, not, ◌&&◌, ◌||◌, List}
+use Rattle.std.specs.Prelude.{ℕ, ◌+◌, ◌-◌, ◌==◌, nat_lt, Bool, not, ◌&&◌, ◌||◌, List}
 use Rattle.std.specs.List.{list_all, list_any, range_with_len}
 use Rattle.gate_core.specs.declared.circuit.Node.{Node}
 use Rattle.gate_arith.specs.Numbers.{differ}
 use Rattle.heap_core.specs.Closure.{Graph}
-use Rattle.gate_sets.specs.Lists.{at, in_row}
+use Rattle.gate_sets.specs.Lists.{in_row}
 
 -- the object is in the set: place 0 is null's
 abbrev pub has_object : (ℕ → Bool) → ℕ → Bool

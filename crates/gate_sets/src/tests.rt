@@ -51,7 +51,9 @@ fn shown(alloc: Global, gates: &Gates, inputs: u32, list: &[Gate]) -> Result<u32
     }
     let mut bits = 0u32;
     for gate in list.iter().rev() {
-        bits = bits.wrapping_mul(2).wrapping_add(u32::from(is_true(&values, *gate)));
+        bits = bits
+            .wrapping_mul(2)
+            .wrapping_add(u32::from(is_true(&values, *gate)));
     }
     Ok(bits)
 }

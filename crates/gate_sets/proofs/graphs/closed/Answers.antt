@@ -1,14 +1,11 @@
 -- The steps are doubled until there are as many as objects.
-use Rattle.std.proofs.Common.{◌≡◌, ℕ, ◌+◌, ◌-◌, ◌*◌, ◌<◌, ◌≤◌, Bool, true, false, not, ◌&&◌, ◌||◌, [], ◌∷◌, ◌++◌, length, get_or, drop, All, refl, sym, subst, ap, ◌∙◌, arith, length-drop}
-use Rattle.std.specs.Prelude.{◌==◌, if◌then◌else◌}
-use Rattle.std.specs.List.{list_all, list_any, range_with_len}
-use Rattle.gate_core.specs.Circuit.{value, IsOf, Keeps}
+use Rattle.std.proofs.Common.{◌≡◌, ◌*◌, ◌≤◌, refl, subst, arith}
+use Rattle.std.specs.Prelude.{◌==◌}
 use Rattle.gate_core.proofs.Values.{keeps_twice, keeps_same}
-use Rattle.gate_arith.specs.Operations.{IsTruth}
-use Rattle.gate_sets.specs.Lists.{at, in_row, AreTruths, AreRows}
-use Rattle.gate_sets.specs.Shapes.{has_object, any_row, are_many, is_only, edges, objects_only}
+use Rattle.gate_sets.specs.Lists.{in_row, AreRows}
+use Rattle.gate_sets.specs.Shapes.{any_row, edges}
 use Rattle.heap_core.specs.Closure.{closure}
-use Rattle.gate_sets.proofs.Paths.{paths_of, first_paths, more_paths, all_paths}
+use Rattle.gate_sets.proofs.Paths.{first_paths, more_paths, all_paths}
 use Rattle.gate_sets.proofs.graphs.closed.Goals as goal
 
 pub loop-steps-init : goal.loop-steps-init

@@ -1,13 +1,7 @@
 -- One place more.
-use Rattle.std.proofs.Common.{◌≡◌, ℕ, ◌+◌, ◌-◌, ◌*◌, ◌<◌, ◌≤◌, Bool, true, false, not, ◌&&◌, ◌||◌, [], ◌∷◌, ◌++◌, length, get_or, drop, All, refl, sym, subst, ap, ◌∙◌, arith}
-use Rattle.std.specs.Prelude.{◌==◌}
-use Rattle.std.specs.List.{list_all, list_any, range_with_len}
-use Rattle.gate_core.specs.Circuit.{value, IsOf, Keeps}
+use Rattle.std.proofs.Common.{ℕ, ◌+◌, ◌<◌, Bool, ◌||◌, length, sym, subst, arith}
 use Rattle.gate_core.proofs.Values.{keeps_twice}
-use Rattle.gate_arith.specs.Numbers.{differ}
-use Rattle.gate_arith.specs.Operations.{IsTruth}
-use Rattle.gate_sets.specs.Lists.{at, in_row, AreTruths, AreRows}
-use Rattle.gate_sets.specs.Shapes.{has_object, any_row, are_many, is_only, edges}
+use Rattle.gate_sets.specs.Lists.{at, AreTruths}
 use Rattle.gate_sets.proofs.Standing.{both_read}
 use Rattle.gate_sets.proofs.Places.{truths_more}
 use Rattle.gate_sets.proofs.graphs.either_place.Goals as goal

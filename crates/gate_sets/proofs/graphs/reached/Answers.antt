@@ -1,12 +1,7 @@
 -- The closure of each object of the set, and null in front.
-use Rattle.std.proofs.Common.{◌≡◌, ℕ, ◌+◌, ◌-◌, ◌*◌, ◌<◌, ◌≤◌, Bool, true, false, not, ◌&&◌, ◌||◌, [], ◌∷◌, ◌++◌, length, get_or, drop, All, refl, sym, subst, ap, ◌∙◌, arith, length-drop}
-use Rattle.std.specs.Prelude.{◌==◌, if◌then◌else◌}
-use Rattle.std.specs.List.{list_all, list_any, range_with_len}
-use Rattle.gate_core.specs.Circuit.{value, IsOf, Keeps}
-use Rattle.gate_core.proofs.Values.{keeps_twice, keeps_same}
-use Rattle.gate_arith.specs.Operations.{IsTruth}
-use Rattle.gate_sets.specs.Lists.{at, in_row, AreTruths, AreRows}
-use Rattle.gate_sets.specs.Shapes.{has_object, any_row, are_many, is_only, edges, objects_only}
+use Rattle.std.proofs.Common.{◌≡◌, ℕ, ◌+◌, ◌<◌, Bool, [], ◌∷◌, ◌++◌, length, drop, sym, subst, ap, ◌∙◌, arith, length-drop}
+use Rattle.gate_sets.specs.Lists.{at, in_row, AreTruths}
+use Rattle.gate_sets.specs.Shapes.{has_object, any_row, edges, objects_only}
 use Rattle.heap_core.specs.Closure.{closure}
 use Rattle.gate_sets.proofs.Standing.{at_keeps, after_first}
 use Rattle.gate_sets.proofs.Paths.{reached_from, with_null}

@@ -1,13 +1,7 @@
 -- One row more.
-use Rattle.std.proofs.Common.{◌≡◌, ℕ, ◌+◌, ◌-◌, ◌*◌, ◌<◌, ◌≤◌, Bool, true, false, not, ◌&&◌, ◌||◌, [], ◌∷◌, ◌++◌, length, get_or, drop, All, refl, sym, subst, ap, ◌∙◌, arith}
-use Rattle.std.specs.Prelude.{◌==◌}
-use Rattle.std.specs.List.{list_all, list_any, range_with_len}
-use Rattle.gate_core.specs.Circuit.{value, IsOf, Keeps}
+use Rattle.std.proofs.Common.{ℕ, ◌+◌, ◌*◌, ◌<◌, Bool, ◌&&◌, length, sym, subst, arith}
 use Rattle.gate_core.proofs.Values.{keeps_twice}
-use Rattle.gate_arith.specs.Numbers.{differ}
-use Rattle.gate_arith.specs.Operations.{IsTruth}
-use Rattle.gate_sets.specs.Lists.{at, in_row, AreTruths, AreRows}
-use Rattle.gate_sets.specs.Shapes.{has_object, any_row, are_many, is_only, edges}
+use Rattle.gate_sets.specs.Lists.{at, in_row}
 use Rattle.gate_sets.proofs.Standing.{both_read, in_rows}
 use Rattle.gate_sets.proofs.Places.{any_more}
 use Rattle.gate_sets.proofs.rows.any_chosen.Goals as goal

@@ -1,14 +1,7 @@
 -- The join of the only object with the rows.
-use Rattle.std.proofs.Common.{◌≡◌, ℕ, ◌+◌, ◌-◌, ◌*◌, ◌<◌, ◌≤◌, Bool, true, false, not, ◌&&◌, ◌||◌, [], ◌∷◌, ◌++◌, length, get_or, drop, All, refl, sym, subst, ap, ◌∙◌, arith}
-use Rattle.std.specs.Prelude.{◌==◌, if◌then◌else◌}
-use Rattle.std.specs.List.{list_all, list_any, range_with_len}
-use Rattle.gate_core.specs.Circuit.{value, IsOf, Keeps}
-use Rattle.gate_core.proofs.Values.{keeps_twice}
-use Rattle.gate_arith.specs.Numbers.{differ}
-use Rattle.gate_arith.specs.Operations.{IsTruth}
-use Rattle.gate_sets.specs.Lists.{at, in_row, AreTruths, AreRows}
-use Rattle.gate_sets.specs.Shapes.{has_object, any_row, are_many, is_only, edges, objects_only}
-use Rattle.heap_core.specs.Closure.{closure}
+use Rattle.std.proofs.Common.{length, subst}
+use Rattle.gate_sets.specs.Lists.{at, in_row, AreTruths}
+use Rattle.gate_sets.specs.Shapes.{any_row}
 use Rattle.gate_sets.proofs.Rowwise.{found_at_only}
 use Rattle.gate_sets.proofs.sets.at_only.Goals as goal
 

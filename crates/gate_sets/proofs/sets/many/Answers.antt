@@ -1,13 +1,10 @@
 -- One place more.
-use Rattle.std.proofs.Common.{◌≡◌, ℕ, ◌+◌, ◌-◌, ◌*◌, ◌<◌, ◌≤◌, Bool, true, false, not, ◌&&◌, ◌||◌, [], ◌∷◌, ◌++◌, length, get_or, drop, All, refl, sym, subst, ap, ◌∙◌, arith}
-use Rattle.std.specs.Prelude.{◌==◌}
-use Rattle.std.specs.List.{list_all, list_any, range_with_len}
-use Rattle.gate_core.specs.Circuit.{value, IsOf, Keeps}
+use Rattle.std.proofs.Common.{ℕ, ◌+◌, ◌<◌, Bool, ◌&&◌, length, ap, ◌∙◌, arith}
+use Rattle.std.specs.List.{list_any, range_with_len}
+use Rattle.gate_core.specs.Circuit.{value, Keeps}
 use Rattle.gate_core.proofs.Values.{keeps_twice, of_more}
-use Rattle.gate_arith.specs.Numbers.{differ}
-use Rattle.gate_arith.specs.Operations.{IsTruth}
-use Rattle.gate_sets.specs.Lists.{at, in_row, AreTruths, AreRows}
-use Rattle.gate_sets.specs.Shapes.{has_object, any_row, are_many, is_only, edges}
+use Rattle.gate_sets.specs.Lists.{at}
+use Rattle.gate_sets.specs.Shapes.{are_many}
 use Rattle.gate_sets.proofs.Standing.{read_kept, read_of, truth_kept, truth_alike}
 use Rattle.gate_sets.proofs.Places.{any_more}
 use Rattle.gate_sets.proofs.sets.many.Goals as goal

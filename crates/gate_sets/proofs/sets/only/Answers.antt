@@ -1,15 +1,10 @@
 -- One place more.
-use Rattle.std.proofs.Common.{◌≡◌, ℕ, ◌+◌, ◌-◌, ◌*◌, ◌<◌, ◌≤◌, Bool, true, false, not, ◌&&◌, ◌||◌, [], ◌∷◌, ◌++◌, length, get_or, drop, All, refl, sym, subst, ap, ◌∙◌, arith}
-use Rattle.std.specs.Prelude.{◌==◌, if◌then◌else◌}
-use Rattle.std.specs.List.{list_all, list_any, range_with_len}
+use Rattle.std.proofs.Common.{ℕ, ◌+◌, ◌<◌, Bool, not, ◌&&◌, length, All, sym, subst, ap, ◌∙◌, arith}
 use Rattle.std.proofs.lemmas.List.Elements.{All-drop}
 use Rattle.gate_core.specs.Circuit.{value, IsOf, Keeps}
 use Rattle.gate_core.proofs.Values.{keeps_twice}
-use Rattle.gate_arith.specs.Numbers.{differ}
-use Rattle.gate_arith.specs.Operations.{IsTruth}
-use Rattle.gate_sets.specs.Lists.{at, in_row, AreTruths, AreRows}
-use Rattle.gate_sets.specs.Shapes.{has_object, any_row, are_many, is_only, edges, objects_only}
-use Rattle.heap_core.specs.Closure.{closure}
+use Rattle.gate_sets.specs.Lists.{at, AreTruths}
+use Rattle.gate_sets.specs.Shapes.{is_only}
 use Rattle.gate_sets.proofs.Standing.{read_kept}
 use Rattle.gate_sets.proofs.Places.{truths_more}
 use Rattle.gate_sets.proofs.Several.{only_is}
