@@ -1,0 +1,5 @@
+pub mod FirstOf
+pub mod ByLinks
+pub mod SameObjects
+pub mod PlacesShown
+pub mod OneValue
