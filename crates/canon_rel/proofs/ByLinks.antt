@@ -1,6 +1,6 @@
 -- The law of canonical starts: a start whose values have their kinds fits and is canonical exactly where each object is
 -- given by a root or by a class-kind field of an object below it, and the object before it is given first there.
-use Rattle.std.proofs.Common.{◌≡◌, ◌↔◌, ℕ, zero, suc, ◌+◌, ◌-◌, ◌<◌, ◌≤◌, Bool, true, false, ◌||◌, List, [], ◌∷◌, ◌++◌, length, Option, Some, None, inl, inr, refl, sym, ap, subst, ◌∙◌, arith, get_or}
+use Rattle.std.proofs.Common.{◌≡◌, ◌↔◌, ℕ, zero, suc, ◌+◌, ◌-◌, ◌<◌, ◌≤◌, Bool, true, false, ◌||◌, List, [], ◌∷◌, ◌++◌, length, Option, Some, None, inl, inr, refl, sym, ap, subst, ◌∙◌, arith, get_or, append_assoc}
 use Rattle.std.specs.Prelude.{◌==◌, map, filter, flat_map, position, slice_get, slice_index, option_and_then, Contains, is_some}
 use Rattle.std.specs.List.{list_all, list_any, range_with_len, position_or_len}
 use Rattle.std.specs.List.Sorted.{IsStrictlyIncreasing}

@@ -176,16 +176,16 @@ module _ (m : Reading) (at : Indices) (c : ℕ) (s : ValueSet) where
     pub of : is_of_shown m at c object ≡ true
 
   pub object_told : HasReferences m s → is_one_object m at c s ≡ true → IsOneObject
-  object_told refs is = go (filter (has_object s) (numbers_below m.objects)) refl first.0
+  object_told refs is = go (filter (has_object s) (numbers_below m.objects)) refl inner.0
     where
-      first : ((option_map_or (m.flag (live_relation at)) (only_object m s) false) ≡ true) × ((are_of m s c (class_relation at) && not (is_subset m is_null s)) ≡ true)
-      first = and_parts (option_map_or (m.flag (live_relation at)) (only_object m s) false) (are_of m s c (class_relation at) && not (is_subset m is_null s)) is
+      outer : ((option_map_or (m.flag (live_relation at)) (only_object m s) false && are_of m s c (class_relation at)) ≡ true) × (not (is_subset m is_null s) ≡ true)
+      outer = and_parts (option_map_or (m.flag (live_relation at)) (only_object m s) false && are_of m s c (class_relation at)) (not (is_subset m is_null s)) is
 
-      second : (are_of m s c (class_relation at) ≡ true) × (not (is_subset m is_null s) ≡ true)
-      second = and_parts (are_of m s c (class_relation at)) (not (is_subset m is_null s)) first.1
+      inner : (option_map_or (m.flag (live_relation at)) (only_object m s) false ≡ true) × (are_of m s c (class_relation at) ≡ true)
+      inner = and_parts (option_map_or (m.flag (live_relation at)) (only_object m s) false) (are_of m s c (class_relation at)) outer.0
 
       no_null : s Null ≡ false
-      no_null = false_from_ne_true (s Null) (λ holds. false≢true (sym (ap not (subset_from m is_null s (λ v is null. only_null v null holds))) ∙ second.1))
+      no_null = false_from_ne_true (s Null) (λ holds. false≢true (sym (ap not (subset_from m is_null s (λ v is null. only_null v null holds))) ∙ outer.1))
         where
           only_null : (v : Value) → is_null v ≡ true → s Null ≡ true → s v ≡ true
           only_null Null null holds = holds
@@ -207,7 +207,7 @@ module _ (m : Reading) (at : Indices) (c : ℕ) (s : ValueSet) where
           class : int_eq (m.number (class_relation at) o) (pos c) ≡ true
           class =
               sym (ap (λ b. not b || int_eq (m.number (class_relation at) o) (pos c)) only.passes)
-              ∙ all_numbers (λ o. not (has_object s o) || int_eq (m.number (class_relation at) o) (pos c)) m.objects o second.0 (omega (arith, only.high))
+              ∙ all_numbers (λ o. not (has_object s o) || int_eq (m.number (class_relation at) o) (pos c)) m.objects o inner.1 (omega (arith, only.high))
 
           each : (u : Value) → is_reference m.objects u ≡ true → s u ≡ is_value (Obj o) u
           each Null is = no_null
@@ -276,11 +276,11 @@ module _ (m : Reading) (at : Indices) (c : ℕ) (s : ValueSet) where
   pub object_from : (o : ℕ) → o < m.objects → ((u : Value) → s u ≡ is_value (Obj o) u) → is_of_shown m at c o ≡ true → is_one_object m at c s ≡ true
   object_from o below alone of =
       let parts = and_parts (m.flag (live_relation at) o) (int_eq (m.number (class_relation at) o) (pos c)) of in
-      and_from (option_map_or (m.flag (live_relation at)) (only_object m s) false) (are_of m s c (class_relation at) && not (is_subset m is_null s))
+      and_from (option_map_or (m.flag (live_relation at)) (only_object m s) false && are_of m s c (class_relation at)) (not (is_subset m is_null s))
+      (and_from (option_map_or (m.flag (live_relation at)) (only_object m s) false) (are_of m s c (class_relation at))
       (ap (λ os. option_map_or (m.flag (live_relation at)) (only os) false) (filter_one (has_object s) 0 m.objects o (omega arith) (omega (arith, below)) (λ q. alone (Obj q))) ∙ parts.0)
-      (and_from (are_of m s c (class_relation at)) (not (is_subset m is_null s))
-      (each_number (λ q. not (has_object s q) || int_eq (m.number (class_relation at) q) (pos c)) m.objects (λ q inside. class q (has_object s q) refl parts.1))
-      (no_null_within (alone Null)))
+      (each_number (λ q. not (has_object s q) || int_eq (m.number (class_relation at) q) (pos c)) m.objects (λ q inside. class q (has_object s q) refl parts.1)))
+      (no_null_within (alone Null))
     where
       class : (q : ℕ) (b : Bool) → has_object s q ≡ b → int_eq (m.number (class_relation at) o) (pos c) ≡ true → (not b || int_eq (m.number (class_relation at) q) (pos c)) ≡ true
       class q false lacks is = refl

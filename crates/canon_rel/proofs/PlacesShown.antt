@@ -152,22 +152,23 @@ module _ (p : Posed) (m : Reading) (at : Indices) (s : Start) (d : MethodDef) (c
   arguments_same : (i : ℕ) (vs : List Value) → ((k : ℕ) (v : Value) → slice_get vs k ≡ Some v → RootAt (suc (i + k)) v)
       → Same (has_at m) gives_object (map (root_place at d) (filter (is_root d) (range_with_len (suc i) (length vs)))) (map Is vs)
   arguments_same i [] each = none
-  arguments_same i (v ∷ vs) each = rw next (elim (cases_Bool (is_root d (suc i))) [
-    | inl root ↦ rw root (both (root_place at d (suc i)) (Is v) _ _ (here.0 root) rest)
-    | inr plain ↦ rw plain (skip (Is v) _ _ (here.1 plain) rest)
-  ])
+  arguments_same i (v ∷ vs) each =
+      let next : suc i + 1 ≡ suc (i + 1) = omega arith in
+      let same : i + 0 ≡ i = omega arith in
+      one_more i v vs (subst (λ j. RootAt (suc j) v) same (each 0 v refl))
+      (subst (λ n. Same (has_at m) gives_object (map (root_place at d) (filter (is_root d) (range_with_len n (length vs)))) (map Is vs)) (sym next)
+      (arguments_same (i + 1) vs (λ k w there. let later : i + suc k ≡ i + 1 + k = omega arith in subst (λ j. RootAt (suc j) w) later (each (suc k) w there))))
     where
-      next : suc i + 1 ≡ suc (i + 1)
-      next = omega arith
-
-      here : RootAt (suc i) v
-      here = let same : i + 0 ≡ i = omega arith in subst (λ j. RootAt (suc j) v) same (each 0 v refl)
-
-      rest : Same (has_at m) gives_object (map (root_place at d) (filter (is_root d) (range_with_len (suc (i + 1)) (length vs)))) (map Is vs)
-      rest = arguments_same (i + 1) vs (λ k w there. let same : i + suc k ≡ i + 1 + k = omega arith in subst (λ j. RootAt (suc j) w) same (each (suc k) w there))
+      one_more : (i : ℕ) (v : Value) (vs : List Value) → RootAt (suc i) v
+          → Same (has_at m) gives_object (map (root_place at d) (filter (is_root d) (range_with_len (suc i + 1) (length vs)))) (map Is vs)
+          → Same (has_at m) gives_object (map (root_place at d) (filter (is_root d) (range_with_len (suc i) (length (v ∷ vs))))) (map Is (v ∷ vs))
+      one_more i v vs here rest = elim (cases_Bool (is_root d (suc i))) [
+        | inl root ↦ rw root (both (root_place at d (suc i)) (Is v) _ _ (here.0 root) rest)
+        | inr plain ↦ rw plain (skip (Is v) _ _ (here.1 plain) rest)
+      ]
 
   roots_same : Same (has_at m) gives_object (map (root_place at d) (roots_of d)) (map Is (s.this ∷ s.args))
-  roots_same = rw many (elim (cases_Bool (is_root d 0)) [
+  roots_same = subst (λ n. Same (has_at m) gives_object (map (root_place at d) (filter (is_root d) (range_with_len 0 n))) (map Is (s.this ∷ s.args))) (sym many) (elim (cases_Bool (is_root d 0)) [
     | inl root ↦ rw root (both (root_place at d 0) (Is s.this) _ _ (receiver_at.0 root) rest)
     | inr plain ↦ rw plain (skip (Is s.this) _ _ (receiver_at.1 plain) rest)
   ])
@@ -236,7 +237,7 @@ module _ (p : Posed) (m : Reading) (at : Indices) (s : Start) (few : m.objects �
   follows_from j is =
       follows_is j ∙ and_from (list_any (gives_object j) (seen_below j)) (j == 0 || nat_lt (first_link (seen_below j) (j - 1)) (first_link (seen_below j) j)) is.given
       (elim (cases_eq j 0) [
-        | inl zero ↦ or_left (j == 0) (nat_lt (first_link (seen_below j) (j - 1)) (first_link (seen_below j) j)) (eq-eqb j 0 zero)
+        | inl is_first ↦ or_left (j == 0) (nat_lt (first_link (seen_below j) (j - 1)) (first_link (seen_below j) j)) (eq-eqb j 0 is_first)
         | inr positive ↦
             or_right (j == 0) (nat_lt (first_link (seen_below j) (j - 1)) (first_link (seen_below j) j))
             (lt-ltb (first_link (seen_below j) (j - 1)) (first_link (seen_below j) j) (is.after (omega (arith, positive))))

@@ -20,7 +20,7 @@ module _ {A B : Type 0} (has : ℕ → A → Bool) (gives : ℕ → B → Bool) 
   pub some_same : (xs : List A) (ys : List B) → Same has gives xs ys → (o : ℕ) → list_any (has o) xs ≡ list_any (gives o) ys
   some_same _ _ none o = refl
   some_same _ _ (both x y xs ys same rest) o = rw (same o, some_same xs ys rest o) refl
-  some_same _ _ (skip y xs ys no rest) o = rw (no o) (some_same xs ys rest o)
+  some_same _ _ (skip y xs ys lacks rest) o = rw (lacks o) (some_same xs ys rest o)
 
   abbrev before : {C : Type 0} → (ℕ → C → Bool) → List C → ℕ → ℕ → Bool
   before test zs a b = nat_lt (position_or_len (test a) zs) (position_or_len (test b) zs)
@@ -34,13 +34,13 @@ module _ {A B : Type 0} (has : ℕ → A → Bool) (gives : ℕ → B → Bool) 
       ∙ ap (λ c. not (has b x) && (c || nat_lt (position_or_len (gives a) ys) (position_or_len (gives b) ys))) (same a)
       ∙ ap (λ c. not c && (gives a y || nat_lt (position_or_len (gives a) ys) (position_or_len (gives b) ys))) (same b)
       ∙ sym (first_step (gives a y) (gives b y) (position_or_len (gives a) ys) (position_or_len (gives b) ys))
-  before_same _ _ (skip y xs ys no rest) a b =
+  before_same _ _ (skip y xs ys lacks rest) a b =
       before_same xs ys rest a b
       ∙ sym (first_step (gives a y) (gives b y) (position_or_len (gives a) ys) (position_or_len (gives b) ys)
-      ∙ ap (λ c. not c && (gives a y || nat_lt (position_or_len (gives a) ys) (position_or_len (gives b) ys))) (no b)
-      ∙ ap (λ c. c || nat_lt (position_or_len (gives a) ys) (position_or_len (gives b) ys)) (no a))
+      ∙ ap (λ c. not c && (gives a y || nat_lt (position_or_len (gives a) ys) (position_or_len (gives b) ys))) (lacks b)
+      ∙ ap (λ c. c || nat_lt (position_or_len (gives a) ys) (position_or_len (gives b) ys)) (lacks a))
 
   pub appended : (xs vs : List A) (ys ws : List B) → Same has gives xs ys → Same has gives vs ws → Same has gives (xs ++ vs) (ys ++ ws)
   appended _ vs _ ws none rest = rest
   appended _ vs _ ws (both x y xs ys same here) rest = both x y (xs ++ vs) (ys ++ ws) same (appended xs vs ys ws here rest)
-  appended _ vs _ ws (skip y xs ys no here) rest = skip y (xs ++ vs) (ys ++ ws) no (appended xs vs ys ws here rest)
+  appended _ vs _ ws (skip y xs ys lacks here) rest = skip y (xs ++ vs) (ys ++ ws) lacks (appended xs vs ys ws here rest)
