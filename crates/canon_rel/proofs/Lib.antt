@@ -3,3 +3,5 @@ pub mod ByLinks
 pub mod SameObjects
 pub mod PlacesShown
 pub mod OneValue
+pub mod ReadingOf
+pub mod ShapeHeap
