@@ -5,3 +5,4 @@ pub mod PlacesShown
 pub mod OneValue
 pub mod ReadingOf
 pub mod ShapeHeap
+pub mod ShapeStart

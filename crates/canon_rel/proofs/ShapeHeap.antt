@@ -79,7 +79,7 @@ object_first t o is a (suc k) low high = elim (cases_eq o a) [
 ]
 
 -- the only reference of a relation at a place is the first
-only_first : (t : Value → Bool) (k : ℕ) (v : Value) → is_reference k v ≡ true → ((u : Value) → t u ≡ is_value v u) → get_or (filter t (references k)) 0 Null ≡ v
+pub only_first : (t : Value → Bool) (k : ℕ) (v : Value) → is_reference k v ≡ true → ((u : Value) → t u ≡ is_value v u) → get_or (filter t (references k)) 0 Null ≡ v
 only_first t k Null low is = rw (is Null) refl
 only_first t k (Obj o) low is = rw (is Null) (object_first t o is 0 k (omega arith) (omega (arith, ltb-true o k low)))
 only_first t k (Num z) low is = absurd (false≢true low)
