@@ -6,3 +6,4 @@ pub mod OneValue
 pub mod ReadingOf
 pub mod ShapeHeap
 pub mod ShapeStart
+pub mod ShapeBack

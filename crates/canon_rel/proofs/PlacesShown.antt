@@ -79,11 +79,43 @@ module _ (p : Posed) (m : Reading) (at : Indices) (s : Start) (d : MethodDef) (c
   kinds_too : length (param_kinds d) ≡ length d.params
   kinds_too = length-map d.params (λ q. q.kind)
 
+  -- an argument is shown by the kind of its parameter
+  pub record IsArgumentShown (x : ℕ) (q : ParamDef) : Type 0 where
+    pub value : Value
+    pub there : slice_get s.args x ≡ Some value
+    pub has : has_kind p.scope.ints s.objects q.kind value ≡ true
+    pub is_shown : ShowsValue m q.kind (slot_relation at x) 0 value
+
+  pub argument_value : (x : ℕ) (q : ParamDef) → slice_get d.params x ≡ Some q → IsArgumentShown x q
+  argument_value x q param =
+      let found = beside (is_argument p.scope.ints s.objects) d.params s.args x q arguments param in
+      let within : x < length s.args = slice_get_within s.args x found.0 found.1 in
+      let kind_there : slice_get (param_kinds d ++ receiver_kinds d) x ≡ Some q.kind =
+      slice_get-append_left (param_kinds d) (receiver_kinds d) x (omega (arith, within, as_many, kinds_too))
+      ∙ slice_get-map (λ (q : ParamDef). q.kind) d.params x ∙ ap (option_map (λ (q : ParamDef). q.kind)) param
+      in
+      let value : get_or (s.args ++ s.this ∷ []) x Null ≡ found.0 = get_or_append_left s.args (s.this ∷ []) Null x within ∙ get_or_from_slice_get s.args x found.0 Null found.1 in
+      record {
+        value = found.0;
+        there = found.1;
+        has = found.2;
+        is_shown = subst (ShowsValue m q.kind (slot_relation at x) 0) value (shown.values x q.kind (rw called kind_there));
+      }
+
+  -- so is the receiver
+  pub receiver_value : d.fixed ≡ false → ShowsValue m (kind.Ref d.class) (slot_relation at (length d.params)) 0 s.this
+  receiver_value instance =
+      let behind : get_or (s.args ++ s.this ∷ []) (length d.params) Null ≡ s.this =
+      ap (λ x. get_or (s.args ++ s.this ∷ []) x Null) (sym as_many) ∙ get_or-append_seam s.args s.this [] Null
+      in
+      let last : slice_get (param_kinds d ++ receiver_kinds d) (length d.params) ≡ Some (kind.Ref d.class) =
+      rw instance (ap (slice_get (param_kinds d ++ kind.Ref d.class ∷ [])) (sym kinds_too) ∙ append_last (param_kinds d) (kind.Ref d.class))
+      in
+      subst (ShowsValue m (kind.Ref d.class) (slot_relation at (length d.params)) 0) behind (shown.values (length d.params) (kind.Ref d.class) (rw called last))
+
   -- what a variable of class kind has
-  variable_has : (x c : ℕ) (v : Value) → slice_get (param_kinds d ++ receiver_kinds d) x ≡ Some (kind.Ref c) → get_or (s.args ++ s.this ∷ []) x Null ≡ v → (o : ℕ) → m.refs (slot_relation at x) 0 (Obj o) ≡ is_object o v
-  variable_has x c v there is o =
-      let value = shown.values x (kind.Ref c) (rw called there) in
-      value.1 (Obj o) ∙ ap (λ w. is_value w (Obj o)) is ∙ value_object v o
+  variable_has : (x c : ℕ) (v : Value) → ShowsValue m (kind.Ref c) (slot_relation at x) 0 v → (o : ℕ) → m.refs (slot_relation at x) 0 (Obj o) ≡ is_object o v
+  variable_has x c v value o = value.1 (Obj o) ∙ value_object v o
 
   no_object : (k : Kind) (v : Value) → is_class_kind k ≡ false → has_kind p.scope.ints s.objects k v ≡ true → (o : ℕ) → is_object o v ≡ false
   no_object k Null plain has o = refl
@@ -99,46 +131,35 @@ module _ (p : Posed) (m : Reading) (at : Indices) (s : Start) (d : MethodDef) (c
       none_there : ParamDef
       none_there = record { name = []; kind = kind.Int; nullable = true }
 
-      within : x < length s.args
-      within = slice_get_within s.args x v there
-
       q : ParamDef
       q = get_or d.params x none_there
 
       param : slice_get d.params x ≡ Some q
-      param = slice_get-get_or d.params x none_there (omega (arith, within, as_many))
+      param = slice_get-get_or d.params x none_there (omega (arith, slice_get_within s.args x v there, as_many))
 
-      has : has_kind p.scope.ints s.objects q.kind v ≡ true
-      has =
-          let found = beside (is_argument p.scope.ints s.objects) d.params s.args x q arguments param in
-          let same : found.0 ≡ v = same_Some found.0 v (sym found.1 ∙ there) in
-          ap (has_kind p.scope.ints s.objects q.kind) (sym same) ∙ found.2
+      argument : IsArgumentShown x q
+      argument = argument_value x q param
+
+      same : argument.value ≡ v
+      same = same_Some argument.value v (sym argument.there ∙ there)
 
       root_is : is_root d (suc x) ≡ is_class_kind q.kind
       root_is = ap (λ y. option_map_or (λ (q : ParamDef). is_class_kind q.kind) y false) param
 
-      kind_there : slice_get (param_kinds d ++ receiver_kinds d) x ≡ Some q.kind
-      kind_there =
-          slice_get-append_left (param_kinds d) (receiver_kinds d) x (omega (arith, within, as_many, kinds_too))
-          ∙ slice_get-map (λ (q : ParamDef). q.kind) d.params x ∙ ap (option_map (λ (q : ParamDef). q.kind)) param
-
-      value : get_or (s.args ++ s.this ∷ []) x Null ≡ v
-      value = get_or_append_left s.args (s.this ∷ []) Null x within ∙ get_or_from_slice_get s.args x v Null there
+      plain_at : is_class_kind q.kind ≡ false → RootAt (suc x) v
+      plain_at plain =
+          ((λ link o. absurd (false≢true (sym plain ∙ sym root_is ∙ link))), (λ other o. no_object q.kind v plain (ap (has_kind p.scope.ints s.objects q.kind) (sym same) ∙ argument.has) o))
 
       go : (k : Kind) → q.kind ≡ k → RootAt (suc x) v
-      go (kind.Ref c) is = ((λ link o. variable_has x c v (kind_there ∙ ap Some is) value o), (λ plain o. absurd (false≢true (sym plain ∙ root_is ∙ ap is_class_kind is))))
-      go kind.Int is = ((λ link o. absurd (false≢true (sym (ap is_class_kind is) ∙ sym root_is ∙ link))), (λ plain o. no_object q.kind v (ap is_class_kind is) has o))
-      go kind.Flag is = ((λ link o. absurd (false≢true (sym (ap is_class_kind is) ∙ sym root_is ∙ link))), (λ plain o. no_object q.kind v (ap is_class_kind is) has o))
+      go (kind.Ref c) is =
+          let value = subst (λ k. ShowsValue m k (slot_relation at x) 0 v) is (subst (ShowsValue m q.kind (slot_relation at x) 0) same argument.is_shown) in
+          ((λ link o. variable_has x c v value o), (λ plain o. absurd (false≢true (sym plain ∙ root_is ∙ ap is_class_kind is))))
+      go kind.Int is = plain_at (ap is_class_kind is)
+      go kind.Flag is = plain_at (ap is_class_kind is)
 
   receiver_at : RootAt 0 s.this
   receiver_at = go d.fixed refl receiver
     where
-      behind : get_or (s.args ++ s.this ∷ []) (length d.params) Null ≡ s.this
-      behind = ap (λ x. get_or (s.args ++ s.this ∷ []) x Null) (sym as_many) ∙ get_or-append_seam s.args s.this [] Null
-
-      last : d.fixed ≡ false → slice_get (param_kinds d ++ receiver_kinds d) (length d.params) ≡ Some (kind.Ref d.class)
-      last instance = rw instance (ap (slice_get (param_kinds d ++ kind.Ref d.class ∷ [])) (sym kinds_too) ∙ append_last (param_kinds d) (kind.Ref d.class))
-
       null_alone : (v : Value) → is_null v ≡ true → (o : ℕ) → is_object o v ≡ false
       null_alone Null null o = refl
       null_alone (Obj q) null o = absurd (false≢true null)
@@ -147,7 +168,7 @@ module _ (p : Posed) (m : Reading) (at : Indices) (s : Start) (d : MethodDef) (c
 
       go : (b : Bool) → d.fixed ≡ b → is_receiver s.objects d.class b s.this ≡ true → RootAt 0 s.this
       go true fixed is = ((λ root o. absurd (false≢true (sym (ap not fixed) ∙ root))), (λ plain o. null_alone s.this is o))
-      go false fixed is = ((λ root o. variable_has (length d.params) d.class s.this (last fixed) behind o), (λ plain o. absurd (false≢true (sym plain ∙ ap not fixed))))
+      go false fixed is = ((λ root o. variable_has (length d.params) d.class s.this (receiver_value fixed) o), (λ plain o. absurd (false≢true (sym plain ∙ ap not fixed))))
 
   arguments_same : (i : ℕ) (vs : List Value) → ((k : ℕ) (v : Value) → slice_get vs k ≡ Some v → RootAt (suc (i + k)) v)
       → Same (has_at m) gives_object (map (root_place at d) (filter (is_root d) (range_with_len (suc i) (length vs)))) (map Is vs)
