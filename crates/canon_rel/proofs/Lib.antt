@@ -7,3 +7,4 @@ pub mod ReadingOf
 pub mod ShapeHeap
 pub mod ShapeStart
 pub mod ShapeBack
+pub mod Pieces

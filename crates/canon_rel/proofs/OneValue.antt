@@ -57,7 +57,7 @@ filter_none : (t : ℕ → Bool) (a k : ℕ) → ((q : ℕ) → a ≤ q → q < 
 filter_none t a zero none = refl
 filter_none t a (suc k) none = rw (none a (omega arith) (omega arith)) (filter_none t (a + 1) k (λ q low high. none q (omega (arith, low)) (omega (arith, high))))
 
-filter_one : (t : ℕ → Bool) (a k o : ℕ) → a ≤ o → o < a + k → ((q : ℕ) → t q ≡ (o == q)) → filter t (range_with_len a k) ≡ o ∷ []
+pub filter_one : (t : ℕ → Bool) (a k o : ℕ) → a ≤ o → o < a + k → ((q : ℕ) → t q ≡ (o == q)) → filter t (range_with_len a k) ≡ o ∷ []
 filter_one t a zero o low high is = absurd (omega (arith, low, high))
 filter_one t a (suc k) o low high is = elim (cases_eq o a) [
   | inl same ↦

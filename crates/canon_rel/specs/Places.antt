@@ -1,5 +1,5 @@
 -- The places of a start that hold references: roots, and class-kind fields of objects. (This project's own.)
-use Rattle.std.specs.Prelude.{ℕ, zero, suc, List, [], ◌++◌, length, map, flat_map}
+use Rattle.std.specs.Prelude.{ℕ, zero, suc, nat_lt, Bool, true, ◌&&◌, List, [], ◌++◌, length, map, flat_map}
 use Rattle.std.specs.List.{range_with_len}
 use Rattle.std.specs.Option.{option_map_or}
 use Rattle.taco_unit.specs.declared.unit.MethodDef.{MethodDef}
@@ -9,6 +9,7 @@ use Rattle.canonical_order.specs.Tuples.{roots_of, links_of}
 use Rattle.rel_core.specs.declared.indices.Indices.{Indices}
 use Rattle.rel_core.specs.Reading.{Reading}
 use Rattle.rel_core.specs.Meaning.{ValueSet}
+use Rattle.rel_core.specs.Uses.{Kinds, AsSet, is_variable, is_spread}
 use Rattle.rel_core.specs.Shown.{field_relation, slot_relation}
 use Rattle.canon_rel.specs.declared.places.Place.{Place}
 use Rattle.canon_rel.specs.declared.places.Place.TheVariants as place
@@ -37,3 +38,15 @@ field_places p at o = map (λ f. place.Field (field_relation at f) o) (links_of 
 -- the roots, and then the class-kind fields of the objects below a number, object by object
 abbrev pub places_below : Posed → Indices → ℕ → List Place
 places_below p at n = root_places p at ++ flat_map (field_places p at) (range_with_len 0 n)
+
+-- ## which places there are
+
+-- a field is looked at at objects below a number
+abbrev pub is_within : ℕ → Place → Bool
+is_within objects (place.Variable r) = true
+is_within objects (place.Field r o) = nat_lt o objects
+
+-- the relation is used for its references, a variable or a field of an object
+abbrev pub is_sorted_place : Posed → Kinds → Place → Bool
+is_sorted_place p kinds (place.Variable r) = is_variable p kinds AsSet r
+is_sorted_place p kinds (place.Field r o) = nat_lt o p.scope.objects && is_spread p kinds AsSet r
