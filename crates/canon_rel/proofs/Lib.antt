@@ -8,3 +8,6 @@ pub mod ShapeHeap
 pub mod ShapeStart
 pub mod ShapeBack
 pub mod Pieces
+pub mod Gathered
+pub mod KindsKnown
+pub mod Says
