@@ -6,12 +6,15 @@ use Rattle.std.specs.List.{list_all, list_any, range_with_len}
 use Rattle.std.specs.Option.{option_map_or}
 use Rattle.std.proofs.lemmas.Bool.{cases_eq, eq-eqb, ne_eqb, lt-ltb, ltb-true}
 use Rattle.std.proofs.lemmas.List.Folds.{list_all-map}
+use Rattle.taco_unit.specs.declared.kind.Kind.{Kind}
+use Rattle.taco_unit.specs.declared.kind.Kind.TheVariants as kind
 use Rattle.heap_core.specs.declared.value.Value.{Value}
 use Rattle.heap_core.specs.declared.value.Value.TheVariants.{Null, Obj}
 use Rattle.heap_core.specs.Outcomes.{is_object}
 use Rattle.rel_core.specs.declared.relation.RelVar.{RelVar}
 use Rattle.rel_core.specs.Reading.{Reading, numbers_below}
 use Rattle.rel_core.specs.Meaning.{ValueSet, joined, is_subset, are_of, only, only_object}
+use Rattle.canon_rel.specs.Shape.{on_class}
 use Rattle.canon_rel.proofs.OneValue.{filter_one}
 use mathlib.Core.Path.{fun_ext}
 
@@ -19,7 +22,7 @@ or_false : (b : Bool) → (b || false) ≡ b
 or_false true = refl
 or_false false = refl
 
-and_true : (b : Bool) → (b && true) ≡ b
+pub and_true : (b : Bool) → (b && true) ≡ b
 and_true true = refl
 and_true false = refl
 
@@ -67,3 +70,9 @@ class_of_one m c r o inside = all_one (λ q. int_eq (m.number r q) (pos c)) o 0 
 pub chosen : (a b c : Bool) → ((not a || b) && (a || c)) ≡ (if a then b else c)
 chosen true b c = and_true b
 chosen false b c = refl
+
+-- other kinds than those of classes are not spoken of
+pub unspoken : (k : Kind) (fits : ℕ → Bool) → ((c : ℕ) → k ≡ kind.Ref c → ⊥) → on_class k fits ≡ true
+unspoken kind.Int fits other = refl
+unspoken kind.Flag fits other = refl
+unspoken (kind.Ref c) fits other = absurd (other c refl)

@@ -7,6 +7,7 @@ mod objects;
 mod order;
 mod places;
 mod places_below;
+mod problems;
 mod shape;
 mod values;
 

@@ -12,6 +12,7 @@ ghost use Rattle.canon_rel.specs.Order.{has_at, comes_before as comes_before_lem
 
 use crate::objects::is_live;
 use crate::places::Place;
+use crate::problems::object_count;
 use crate::places_below::{push_fields, root_places};
 use heap_core::Problem;
 use no_memory::NoMemory;
@@ -101,9 +102,10 @@ pub(crate) fn is_in_order(
     ensures meaning { IfOk result (λ f. (m : Reading) → m.objects ≡ problem.now.scope.objects → holds f m ≡ is_in_order_lem problem.now at.now m) }
     ensures sorted { IfOk result (λ f. (kinds : Kinds) → GivesStart problem.now kinds → IsTrue (is_sorted problem.now kinds f)) }
 {
+    let count = object_count(problem);
     let mut places = root_places(alloc, problem, at)?;
     let mut parts = Items::new(alloc);
-    for object in 0..problem.scope.objects {
+    for object in 0..count {
         let part = follows_where_live(alloc, at, places.as_slice(), object)?;
         parts.push(part.into_inner())?;
         push_fields(&mut places, problem, at, object)?;

@@ -7,13 +7,14 @@ ghost use Rattle.canon_rel.specs.declared.places.Place.TheVariants as place;
 ghost use Rattle.canon_rel.specs.Places.{root_variable as root_variable_lem, root_place, root_places as root_places_lem, field_places};
 
 use crate::places::Place;
+use crate::problems::field_count;
 use canonical_order::{is_link, is_root};
-use heap_core::{Problem, method_in, well_posed};
+use heap_core::{Problem, method_in};
 use no_memory::NoMemory;
 use rel_core::Indices;
 use sqlite_items::Items;
 use std::alloc::Global;
-use taco_unit::{MethodDef, Unit};
+use taco_unit::MethodDef;
 
 /// The variable of a root: of the receiver it is the one behind the parameters, and of a parameter its
 /// own.
@@ -67,14 +68,14 @@ pub(crate) fn root_places(
 /// Puts the field of an object behind the places, where it is of class kind.
 fn push_field(
     places: &mut Items<Place>,
-    unit: &Unit,
+    problem: &Problem,
     at: &Indices,
     object: u8,
     field: u8,
 ) -> Result<(), NoMemory>
-    ensures { IfOk result (λ u. places.new ≡ places.old ++ (if is_link_lem unit.now field then place.Field (field_relation at.now field) object ∷ [] else [])) }
+    ensures { IfOk result (λ u. places.new ≡ places.old ++ (if is_link_lem problem.now.unit field then place.Field (field_relation at.now field) object ∷ [] else [])) }
 {
-    if !is_link(unit, usize::from(field)) {
+    if !is_link(&problem.unit, usize::from(field)) {
         return Ok(());
     }
     let relation = at.field(field);
@@ -91,10 +92,9 @@ pub(crate) fn push_fields(
 ) -> Result<(), NoMemory>
     ensures { IfOk result (λ u. places.new ≡ places.old ++ field_places problem.now at.now object) }
 {
-    well_posed(problem);
-    let count = problem.unit.fields.len();
+    let count = field_count(problem);
     for field in 0..count {
-        push_field(places, &problem.unit, at, object, field as u8)?;
+        push_field(places, problem, at, object, field as u8)?;
     }
     Ok(())
 }

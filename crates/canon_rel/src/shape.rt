@@ -12,8 +12,9 @@ ghost use Rattle.canon_rel.specs.Shape.{is_next as is_next_lem, field_fits as fi
 
 use crate::objects::is_next;
 use crate::places::Place;
+use crate::problems::{field_count, field_of, object_count, param_at};
 use crate::values::{is_declared_value, is_one_object, is_one_value};
-use heap_core::{Problem, method_in, well_posed};
+use heap_core::{Problem, method_in};
 use no_memory::NoMemory;
 use rel_core::{Formula, Indices};
 use sqlite_items::{Boxed, Items};
@@ -25,8 +26,9 @@ fn is_prefix(alloc: Global, problem: &Problem, at: &Indices) -> Result<Boxed<For
     ensures meaning { IfOk result (λ f. (m : Reading) → m.objects ≡ problem.now.scope.objects → holds f m ≡ list_all (is_next_lem at.now m) (numbers_below problem.now.scope.objects)) }
     ensures sorted { IfOk result (λ f. (kinds : Kinds) → IsTrue (is_sorted problem.now kinds f)) }
 {
+    let count = object_count(problem);
     let mut parts = Items::new(alloc);
-    for object in 0..problem.scope.objects {
+    for object in 0..count {
         let part = is_next(alloc, at, object)?;
         parts.push(part.into_inner())?;
     }
@@ -69,11 +71,10 @@ fn fields_fit(
     ensures meaning { IfOk result (λ f. (m : Reading) → object < m.objects → holds f m ≡ fields_fit_lem problem.now at.now m object) }
     ensures sorted { IfOk result (λ f. (kinds : Kinds) → IsTrue (nat_lt object problem.now.scope.objects) → IsTrue (is_sorted problem.now kinds f)) }
 {
-    well_posed(problem);
-    let fields = problem.unit.fields.as_slice();
+    let count = field_count(problem);
     let mut parts = Items::new(alloc);
-    for field in 0..fields.len() {
-        let part = field_fits(alloc, at, object, field as u8, &fields[field])?;
+    for field in 0..count {
+        let part = field_fits(alloc, at, object, field as u8, field_of(problem, field))?;
         parts.push(part.into_inner())?;
     }
     let all = Formula::all(alloc, parts)?;
@@ -89,8 +90,9 @@ fn all_fields_fit(
     ensures meaning { IfOk result (λ f. (m : Reading) → m.objects ≡ problem.now.scope.objects → holds f m ≡ list_all (fields_fit_lem problem.now at.now m) (numbers_below problem.now.scope.objects)) }
     ensures sorted { IfOk result (λ f. (kinds : Kinds) → IsTrue (is_sorted problem.now kinds f)) }
 {
+    let count = object_count(problem);
     let mut parts = Items::new(alloc);
-    for object in 0..problem.scope.objects {
+    for object in 0..count {
         let part = fields_fit(alloc, problem, at, object)?;
         parts.push(part.into_inner())?;
     }
@@ -150,10 +152,10 @@ fn arguments_fit(
     ensures meaning { IfOk result (λ f. (m : Reading) → holds f m ≡ list_all (λ x. option_map_or (argument_fits_lem at.now m x) (slice_get method.now.params x) true) (range_with_len 0 (length method.now.params))) }
     ensures sorted { IfOk result (λ f. (p : Posed) (kinds : Kinds) → method_of p ≡ Some method.now → GivesStart p kinds → IsTrue (is_sorted p kinds f)) }
 {
-    let params = method.params.as_slice();
+    let count = method.params.len();
     let mut parts = Items::new(alloc);
-    for variable in 0..params.len() {
-        let part = argument_fits(alloc, at, variable as u16, &params[variable])?;
+    for variable in 0..count {
+        let part = argument_fits(alloc, at, variable as u16, param_at(method, variable))?;
         parts.push(part.into_inner())?;
     }
     let all = Formula::all(alloc, parts)?;

@@ -13,15 +13,15 @@ pub loop-object-preserved : goal.loop-object-preserved
 loop-object-preserved c = 
     more_parts c.loop-object.object c.loop-object.parts c.push.new.self c.in_ok-part.part c.loop-object.invariant
     (c.in_ok-push.ensures.ok ∙ ap (λ f. c.loop-object.parts ++ f ∷ []) c.into_inner.ensures)
-    (λ m same. c.in_ok-part.ensures.meaning m (omega (arith, c.loop-object-test.true, same)))
-    (λ p kinds same.
+    (λ m same. c.in_ok-part.ensures.meaning m (omega (arith, c.loop-object-test.true, c.object_count-count.ensures, same)))
+    (λ p kinds same. 
         subst (λ p. is_sorted p kinds c.in_ok-part.part ≡ true) (sym same)
-        (c.in_ok-part.ensures.sorted kinds (lt-ltb c.loop-object.object c.args.problem.now.scope.objects (omega (arith, c.loop-object-test.true)))))
+        (c.in_ok-part.ensures.sorted kinds (lt-ltb c.loop-object.object c.args.problem.now.scope.objects (omega (arith, c.loop-object-test.true, c.object_count-count.ensures)))))
 
 pub returns-clause-meaning : goal.returns-clause-meaning
 returns-clause-meaning c = λ m same.
     c.in_ok-all.ensures.meaning m ∙ c.loop-object.invariant.meaning m same
-    ∙ ap (λ n. list_all (fields_fit c.args.problem.now c.args.at.now m) (range_with_len 0 n)) (omega (arith, c.loop-object-test.false, c.loop-object.auto.object-end))
+    ∙ ap (λ n. list_all (fields_fit c.args.problem.now c.args.at.now m) (range_with_len 0 n)) (omega (arith, c.loop-object-test.false, c.loop-object.auto.object-end, c.object_count-count.ensures))
 
 pub returns-clause-sorted : goal.returns-clause-sorted
 returns-clause-sorted c = λ kinds. c.in_ok-all.ensures.sorted c.args.problem.now kinds (c.loop-object.invariant.sorted c.args.problem.now kinds refl)
