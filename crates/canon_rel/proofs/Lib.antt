@@ -11,3 +11,4 @@ pub mod Pieces
 pub mod Gathered
 pub mod KindsKnown
 pub mod Says
+pub mod Along
