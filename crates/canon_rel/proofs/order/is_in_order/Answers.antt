@@ -1,8 +1,9 @@
-use Rattle.std.proofs.Common.{refl, sym, ap, subst, ◌≡◌, true, not, ◌||◌, ◌∙◌, ◌∷◌, ◌++◌, [], append-nil, arith}
+use Rattle.std.proofs.Common.{◌<◌, refl, sym, ap, subst, ◌≡◌, true, not, ◌||◌, ◌∙◌, ◌∷◌, ◌++◌, [], append-nil, arith}
 use Rattle.std.specs.List.{list_all, range_with_len}
 use Rattle.std.proofs.lemmas.Bool.{lt-ltb}
 use Rattle.heap_core.specs.Posed.{Posed}
 use Rattle.rel_core.specs.Shown.{live_relation}
+use Rattle.rel_core.specs.Uses.{GivesStart}
 use Rattle.canon_rel.specs.Order.{follows}
 use Rattle.canon_rel.specs.Places.{is_within, is_sorted_place, root_places, field_places, places_below}
 use Rattle.canon_rel.proofs.Gathered.{no_parts, more_parts, places_more}
@@ -28,9 +29,9 @@ loop-object-preserved c =
               c.in_ok-part.ensures.meaning m (ap (list_all (is_within m.objects)) (c.as_slice.ensures ∙ are) ∙ places_within p at o m.objects (omega (arith, c.loop-object-test.true, few, same))) (omega (arith, c.loop-object-test.true, few, same))
               ∙ ap (λ ps. not (m.flag (live_relation at) o) || follows m ps o) (c.as_slice.ensures ∙ are))
           (λ q kinds so.
-              let inside = omega (arith, c.loop-object-test.true, few, ap (λ (p : Posed). p.scope.objects) so.0) in
+              let inside : o < q.scope.objects = omega (arith, c.loop-object-test.true, few, ap (λ (p : Posed). p.scope.objects) so.0) in
               c.in_ok-part.ensures.sorted q kinds
-              (ap (list_all (is_sorted_place q kinds)) (c.as_slice.ensures ∙ are ∙ ap (λ p. places_below p at o) (sym so.0)) ∙ places_sorted q kinds at o (subst (λ p. GivesStart p kinds) (sym so.0) so.1) inside) (lt-ltb o q.scope.objects inside));
+              (ap (list_all (is_sorted_place q kinds)) (c.as_slice.ensures ∙ are ∙ ap (λ p. places_below p at o) (sym so.0)) ∙ places_sorted q kinds at o (subst (λ p. GivesStart p kinds) (sym so.0) so.1) (omega (arith, inside))) (lt-ltb o q.scope.objects inside));
     }
 
 pub returns-clause-meaning : goal.returns-clause-meaning
