@@ -1,8 +1,8 @@
 -- The law of canonical starts: a start whose values have their kinds fits and is canonical exactly where each object is
 -- given by a root or by a class-kind field of an object below it, and the object before it is given first there.
-use Rattle.std.proofs.Common.{◌≡◌, ◌↔◌, ℕ, zero, suc, ◌+◌, ◌-◌, ◌<◌, ◌≤◌, Bool, true, false, ◌||◌, List, [], ◌∷◌, ◌++◌, length, Option, Some, None, inl, inr, refl, sym, ap, subst, ◌∙◌, arith, get_or, append_assoc}
-use Rattle.std.specs.Prelude.{◌==◌, map, filter, flat_map, position, slice_get, slice_index, option_and_then, Contains, is_some}
-use Rattle.std.specs.List.{list_all, list_any, range_with_len, position_or_len}
+use Rattle.std.proofs.Common.{◌≡◌, ℕ, zero, suc, ◌+◌, ◌-◌, ◌<◌, ◌≤◌, Bool, true, false, ◌||◌, List, [], ◌∷◌, ◌++◌, length, Option, Some, None, inl, inr, refl, sym, ap, subst, ◌∙◌, arith, get_or, append_assoc}
+use Rattle.std.specs.Prelude.{◌==◌, map, flat_map, position, slice_get, slice_index, option_and_then, Contains}
+use Rattle.std.specs.List.{list_any, range_with_len, position_or_len}
 use Rattle.std.specs.List.Sorted.{IsStrictlyIncreasing}
 use Rattle.std.specs.Option.{option_map_or}
 use Rattle.std.specs.Cmp.Lexicographic.{pointwise}
@@ -28,18 +28,17 @@ use Rattle.heap_core.specs.declared.value.Seen.TheVariants.{Is, Bad, Out}
 use Rattle.heap_core.specs.declared.start.Start.{Start}
 use Rattle.heap_core.specs.Posed.{Posed}
 use Rattle.heap_core.specs.Outcomes.{is_object, gives_object, value_in}
-use Rattle.heap_core.specs.Heap.{Heap, field, cell, cell_of, place_of}
+use Rattle.heap_core.specs.Heap.{field, cell, cell_of, place_of}
 use Rattle.heap_core.specs.Start.{Fits, Reached, root, held, has_kind, has_field_kind, is_whole}
 use Rattle.heap_core.proofs.Lists.{all_at, any_filtered}
 use Rattle.heap_core.proofs.Closure.{any_below, any_in}
-use Rattle.canonical_order.specs.Canonical.{IsCanonical}
 use Rattle.canonical_order.specs.Links.{links_at, link_places, first_link, IsVisitByLinks}
 use Rattle.canonical_order.specs.Tuples.{is_link, links_of}
 use Rattle.canonical_order.proofs.InOrder.{range_each_once}
 use Rattle.canonical_order.proofs.Links.{visits_by_links}
 use Rattle.canonical_order.proofs.Rising.{rises_over}
 use Rattle.canon_rel.specs.Canonical.{HasKinds, IsGivenBelow, IsCanonicalOf, CanonicalByLinks}
-use Rattle.canon_rel.proofs.FirstOf.{IsFound, found, some_at, stays, behind, was, first_within, some_from_first, some_of_flat, some_of_map, range_cut}
+use Rattle.canon_rel.proofs.FirstOf.{found, some_at, stays, was, first_within, some_from_first, some_of_flat, some_of_map, range_cut}
 
 -- ## values and cells
 

@@ -1,13 +1,13 @@
 -- The places of a problem are used by their kinds.
-use Rattle.std.proofs.Common.{◌≡◌, ℕ, zero, suc, ◌+◌, ◌<◌, ◌≤◌, Bool, true, false, not, ◌&&◌, List, [], ◌∷◌, ◌++◌, length, Option, Some, None, refl, sym, ap, ◌∙◌, arith}
-use Rattle.std.specs.Prelude.{nat_lt, map, filter, flat_map, slice_get, option_map}
+use Rattle.std.proofs.Common.{◌≡◌, ℕ, zero, suc, ◌+◌, ◌≤◌, Bool, true, false, not, List, [], ◌∷◌, ◌++◌, length, Option, Some, None, refl, sym, ap, ◌∙◌, arith}
+use Rattle.std.specs.Prelude.{nat_lt, map, flat_map, slice_get, option_map}
 use Rattle.std.specs.List.{list_all, range_with_len}
 use Rattle.std.specs.Option.{option_map_or}
 use Rattle.std.proofs.lemmas.Bool.{lt-ltb, false≢true, and_parts, and_from}
 use Rattle.std.proofs.lemmas.Option.{slice_get_within, slice_get-map}
 use Rattle.std.proofs.lemmas.List.{length-map}
 use Rattle.std.proofs.lemmas.List.Concat.{flat_map-cons}
-use Rattle.std.proofs.lemmas.List.Folds.{list_all-append, list_all-map}
+use Rattle.std.proofs.lemmas.List.Folds.{list_all-append}
 use Rattle.taco_unit.specs.declared.kind.Kind.{Kind}
 use Rattle.taco_unit.specs.declared.kind.Kind.TheVariants as kind
 use Rattle.taco_unit.specs.declared.unit.FieldDef.{FieldDef}
@@ -21,12 +21,10 @@ use Rattle.heap_core.specs.Start.{method_of}
 use Rattle.heap_core.proofs.Lists.{all_filtered, slice_get-append_left}
 use Rattle.canonical_order.specs.Tuples.{is_root, roots_of, is_link, links_of}
 use Rattle.rel_core.specs.declared.indices.Indices.{Indices}
-use Rattle.rel_core.specs.Uses.{Kinds, AsSet, GivesStart, start_kinds, receiver_kinds, same_use, use_of_kind, is_variable, is_spread}
+use Rattle.rel_core.specs.Uses.{Kinds, AsSet, GivesStart, receiver_kinds, same_use, use_of_kind, is_variable, is_spread}
 use Rattle.rel_core.specs.Shown.{field_relation, slot_relation}
-use Rattle.canon_rel.specs.declared.places.Place.{Place}
 use Rattle.canon_rel.specs.declared.places.Place.TheVariants as place
-use Rattle.canon_rel.specs.Places.{is_within, is_sorted_place, root_variable, root_place, root_places, field_places, places_below}
-use Rattle.canon_rel.proofs.OneValue.{all_numbers}
+use Rattle.canon_rel.specs.Places.{is_within, is_sorted_place, root_place, root_places, field_places, places_below}
 
 -- ## lists
 

@@ -1,11 +1,11 @@
 -- Where a reading shows a start, its places have the objects that the start's roots and class-kind fields give: so it has
 -- its objects in order exactly where they are given in order.
-use Rattle.std.proofs.Common.{◌≡◌, ◌↔◌, ℕ, zero, suc, ◌+◌, ◌-◌, ◌<◌, ◌≤◌, Bool, true, false, not, ◌&&◌, ◌||◌, List, [], ◌∷◌, ◌++◌, length, Option, Some, None, inl, inr, refl, sym, ap, subst, ◌∙◌, arith, get_or}
-use Rattle.std.specs.Prelude.{◌==◌, nat_lt, map, filter, flat_map, slice_get, option_map, IsTrue}
-use Rattle.std.specs.List.{list_all, list_any, range_with_len, position_or_len}
+use Rattle.std.proofs.Common.{◌≡◌, ℕ, suc, ◌+◌, ◌-◌, ◌<◌, Bool, true, false, not, ◌&&◌, ◌||◌, List, [], ◌∷◌, ◌++◌, length, Option, Some, None, inl, inr, refl, sym, ap, subst, ◌∙◌, arith, get_or}
+use Rattle.std.specs.Prelude.{◌==◌, nat_lt, map, filter, flat_map, slice_get, option_map}
+use Rattle.std.specs.List.{list_all, list_any, range_with_len}
 use Rattle.std.specs.Option.{option_map_or}
 use Rattle.std.specs.Cmp.Lexicographic.{pointwise}
-use Rattle.std.proofs.lemmas.Bool.{lt-ltb, ltb-true, false≢true, cases_eq, cases_Bool, eq-eqb, ne_eqb, and_parts, and_from, or_cases, or_left, or_right}
+use Rattle.std.proofs.lemmas.Bool.{lt-ltb, ltb-true, false≢true, cases_eq, cases_Bool, eq-eqb, ne_eqb, and_parts, and_from, or_left, or_right}
 use Rattle.std.proofs.lemmas.Option.{slice_get_within, slice_get-get_or, get_or_from_slice_get, slice_get-map, same_Some}
 use Rattle.std.proofs.lemmas.List.{length-map, get_or_append_left}
 use Rattle.std.proofs.lemmas.List.Concat.{flat_map-cons}
@@ -16,7 +16,7 @@ use Rattle.taco_unit.specs.declared.unit.FieldDef.{FieldDef}
 use Rattle.taco_unit.specs.declared.unit.MethodDef.{MethodDef}
 use Rattle.taco_unit.specs.declared.unit.ParamDef.{ParamDef}
 use Rattle.taco_unit.specs.Kinds.{is_class_kind}
-use Rattle.taco_unit.specs.Well.{IsWell, param_kinds}
+use Rattle.taco_unit.specs.Well.{param_kinds}
 use Rattle.taco_unit.proofs.Lists.{append_last}
 use Rattle.heap_core.specs.declared.value.Value.{Value}
 use Rattle.heap_core.specs.declared.value.Value.TheVariants.{Null, Obj, Num, Flag}
@@ -25,19 +25,18 @@ use Rattle.heap_core.specs.declared.value.Seen.TheVariants.{Is, Bad, Out}
 use Rattle.heap_core.specs.declared.start.Start.{Start}
 use Rattle.heap_core.specs.Posed.{Posed}
 use Rattle.heap_core.specs.Outcomes.{is_object, is_value, gives, gives_object, is_null}
-use Rattle.heap_core.specs.Heap.{Heap, field}
+use Rattle.heap_core.specs.Heap.{field}
 use Rattle.heap_core.specs.Start.{has_kind, is_receiver, is_argument, method_of}
 use Rattle.heap_core.proofs.Lists.{all_at, all_from, all_filtered, beside, slice_get-append_left}
 use Rattle.canonical_order.specs.Links.{links_at, link_places, first_link}
 use Rattle.canonical_order.specs.Tuples.{is_root, roots_of, is_link, links_of}
-use Rattle.canonical_order.proofs.Counting.{slice_get-range, range_at}
+use Rattle.canonical_order.proofs.Counting.{slice_get-range}
 use Rattle.rel_core.specs.declared.indices.Indices.{Indices}
 use Rattle.rel_core.specs.Reading.{Reading, numbers_below}
-use Rattle.rel_core.specs.Uses.{start_kinds, receiver_kinds}
+use Rattle.rel_core.specs.Uses.{receiver_kinds}
 use Rattle.rel_core.specs.Shown.{ShowsStart, ShowsValue, live_relation, field_relation, slot_relation}
-use Rattle.canon_rel.specs.declared.places.Place.{Place}
 use Rattle.canon_rel.specs.declared.places.Place.TheVariants as place
-use Rattle.canon_rel.specs.Places.{refs_at, root_place, root_places, field_places, places_below}
+use Rattle.canon_rel.specs.Places.{root_place, field_places, places_below}
 use Rattle.canon_rel.specs.Order.{has_at, comes_before, follows, is_in_order}
 use Rattle.canon_rel.specs.Canonical.{HasKinds, IsGivenBelow}
 use Rattle.canon_rel.proofs.SameObjects.{Same, none, both, skip, some_same, before_same, appended}

@@ -1,14 +1,13 @@
 -- What a reading of a problem can have: references below the number of objects, class numbers of the unit, numbers within
 -- the bits; and how many objects are there, where they are a prefix.
-use Rattle.std.proofs.Common.{◌≡◌, ◌⊎◌, ℕ, zero, suc, ◌+◌, ◌-◌, ◌^◌, ◌<◌, ◌≤◌, Bool, true, false, not, ◌&&◌, ◌||◌, cond, List, [], ◌∷◌, length, Option, Some, None, inl, inr, refl, sym, ap, subst, ◌∙◌, arith}
-use Rattle.std.specs.Prelude.{◌==◌, nat_lt, ℤ, pos, negsuc, count_by, option_map, slice_get}
+use Rattle.std.proofs.Common.{◌≡◌, ℕ, zero, suc, ◌+◌, ◌-◌, ◌^◌, ◌<◌, ◌≤◌, Bool, true, false, not, ◌&&◌, ◌||◌, cond, List, [], ◌∷◌, length, Option, Some, None, inl, inr, refl, sym, ap, ◌∙◌, arith}
+use Rattle.std.specs.Prelude.{◌==◌, nat_lt, ℤ, pos, negsuc, count_by, slice_get}
 use Rattle.std.specs.Ordering.{int_eq}
 use Rattle.std.specs.List.{list_all, range_with_len}
 use Rattle.std.specs.Option.{option_map_or}
-use Rattle.std.proofs.lemmas.Bool.{lt-ltb, le-ltb, ltb-true, false≢true, cases_eq, cases_lt, cases_Bool, and_parts, or_cases, eq-eqb, ne_eqb, false_from_ne_true}
+use Rattle.std.proofs.lemmas.Bool.{lt-ltb, le-ltb, ltb-true, false≢true, cases_eq, cases_lt, cases_Bool, and_parts, or_cases, ne_eqb, false_from_ne_true}
 use Rattle.std.proofs.lemmas.Bool.Decides.{Decides-int_eq}
 use Rattle.std.proofs.lemmas.Nat.{pow_pos}
-use Rattle.std.proofs.lemmas.Option.{slice_get_within, slice_get-get_or}
 use Rattle.std.proofs.lemmas.List.Sums.{sum_by-cons}
 use Rattle.taco_unit.specs.declared.kind.Kind.{Kind}
 use Rattle.taco_unit.specs.declared.kind.Kind.TheVariants as kind
@@ -19,11 +18,10 @@ use Rattle.heap_core.specs.Posed.{Posed, InRange}
 use Rattle.heap_core.specs.Outcomes.{in_bits}
 use Rattle.heap_core.specs.Start.{method_of}
 use Rattle.rel_core.specs.declared.relation.RelVar.{RelVar}
-use Rattle.rel_core.specs.declared.relation.What.{What}
 use Rattle.rel_core.specs.declared.indices.Indices.{Indices}
 use Rattle.rel_core.specs.Reading.{Reading, numbers_below, is_reference}
-use Rattle.rel_core.specs.Uses.{Kinds, Use, AsSet, AsNumber, AsFlag, AsClass, same_use, use_of_kind, use_of, has_use, is_slot, has_place, can_have, is_class_number, IsOf}
-use Rattle.rel_core.specs.Shown.{live_relation, class_relation, natural}
+use Rattle.rel_core.specs.Uses.{Kinds, Use, AsSet, AsNumber, AsFlag, AsClass, same_use, use_of_kind, use_of, has_use, is_slot, has_place, is_class_number, IsOf}
+use Rattle.rel_core.specs.Shown.{live_relation, class_relation}
 use Rattle.canon_rel.specs.Shape.{is_next}
 use Rattle.canon_rel.proofs.OneValue.{HasReferences, all_numbers}
 

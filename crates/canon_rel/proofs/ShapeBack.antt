@@ -1,36 +1,34 @@
 -- A reading that shows a start whose values have their kinds has the shape of a start.
-use Rattle.std.proofs.Common.{◌≡◌, ℕ, zero, suc, ◌+◌, ◌-◌, ◌<◌, ◌≤◌, Bool, true, false, not, ◌&&◌, ◌||◌, List, [], ◌∷◌, ◌++◌, length, Option, Some, None, inl, inr, refl, sym, ap, subst, ◌∙◌, arith, get_or}
-use Rattle.std.specs.Prelude.{◌==◌, nat_lt, pos, if◌then◌else◌, map, slice_get, option_map}
+use Rattle.std.proofs.Common.{◌≡◌, ℕ, ◌-◌, ◌<◌, Bool, true, false, not, ◌&&◌, ◌||◌, length, Option, Some, None, inl, inr, refl, sym, ap, subst, ◌∙◌, arith}
+use Rattle.std.specs.Prelude.{◌==◌, if◌then◌else◌, slice_get}
 use Rattle.std.specs.List.{list_all, range_with_len}
 use Rattle.std.specs.Option.{option_map_or}
 use Rattle.std.specs.Cmp.Lexicographic.{pointwise}
-use Rattle.std.proofs.lemmas.Bool.{lt-ltb, ltb-true, false≢true, cases_eq, cases_lt, cases_Bool, and_parts, and_from, eq-eqb, or_left, or_right}
+use Rattle.std.proofs.lemmas.Bool.{lt-ltb, ltb-true, false≢true, cases_eq, cases_Bool, and_from, eq-eqb, or_left, or_right}
 use Rattle.taco_unit.specs.declared.kind.Kind.{Kind}
 use Rattle.taco_unit.specs.declared.kind.Kind.TheVariants as kind
 use Rattle.taco_unit.specs.declared.unit.FieldDef.{FieldDef}
 use Rattle.taco_unit.specs.declared.unit.MethodDef.{MethodDef}
 use Rattle.taco_unit.specs.declared.unit.ParamDef.{ParamDef}
 use Rattle.taco_unit.specs.Kinds.{is_class_kind}
-use Rattle.taco_unit.specs.Well.{IsWell, param_kinds}
+use Rattle.taco_unit.specs.Well.{IsWell}
 use Rattle.heap_core.specs.declared.value.Value.{Value}
 use Rattle.heap_core.specs.declared.value.Value.TheVariants.{Null, Obj, Num, Flag}
 use Rattle.heap_core.specs.declared.value.Seen.{Seen}
 use Rattle.heap_core.specs.declared.value.Seen.TheVariants.{Is, Bad, Out}
 use Rattle.heap_core.specs.declared.start.Start.{Start}
 use Rattle.heap_core.specs.Posed.{Posed}
-use Rattle.heap_core.specs.Outcomes.{is_value, gives}
+use Rattle.heap_core.specs.Outcomes.{gives}
 use Rattle.heap_core.specs.Heap.{is_of, field}
 use Rattle.heap_core.specs.Start.{is_receiver, is_argument, has_kind, method_of}
 use Rattle.heap_core.proofs.GivenFields.{IsGiven, field_given, gives_kind}
 use Rattle.rel_core.specs.declared.relation.RelVar.{RelVar}
 use Rattle.rel_core.specs.declared.indices.Indices.{Indices}
-use Rattle.rel_core.specs.Reading.{Reading, numbers_below, is_reference}
-use Rattle.rel_core.specs.Meaning.{ValueSet}
-use Rattle.rel_core.specs.Uses.{receiver_kinds}
-use Rattle.rel_core.specs.Shown.{ShowsStart, ShowsValue, ShowsCell, live_relation, field_relation, slot_relation}
+use Rattle.rel_core.specs.Reading.{Reading, numbers_below}
+use Rattle.rel_core.specs.Shown.{ShowsStart, ShowsValue, live_relation, field_relation, slot_relation}
 use Rattle.rel_core.specs.Laws.{is_of_shown}
 use Rattle.rel_core.proofs.Read.{heaps_are_read}
-use Rattle.rel_core.proofs.StatesShown.{object_below, kind_of_given}
+use Rattle.rel_core.proofs.StatesShown.{kind_of_given}
 use Rattle.canon_rel.specs.Canonical.{HasKinds}
 use Rattle.canon_rel.specs.Shape.{is_one_object, is_one_value, is_nothing, is_next, on_class, field_fits, fields_fit, argument_fits, receiver_fits, roots_fit, has_shape}
 use Rattle.canon_rel.proofs.OneValue.{may_be, each_number, nothing_from, object_from, value_from}

@@ -1,6 +1,6 @@
 -- A reading with the shape of a start shows a heap whose objects are whole.
-use Rattle.std.proofs.Common.{◌≡◌, ℕ, zero, suc, ◌+◌, ◌-◌, ◌<◌, ◌≤◌, Bool, true, false, not, ◌&&◌, ◌||◌, List, [], ◌∷◌, length, Option, Some, None, inl, inr, refl, sym, ap, subst, ◌∙◌, arith, get_or}
-use Rattle.std.specs.Prelude.{◌==◌, nat_lt, pos, if◌then◌else◌, map, filter, slice_get, option_map, IsTrue}
+use Rattle.std.proofs.Common.{◌≡◌, ℕ, zero, suc, ◌+◌, ◌<◌, ◌≤◌, Bool, true, false, ◌&&◌, List, [], length, Option, Some, None, inl, inr, refl, sym, ap, subst, ◌∙◌, arith, get_or}
+use Rattle.std.specs.Prelude.{◌==◌, nat_lt, pos, if◌then◌else◌, map, filter, slice_get, option_map}
 use Rattle.std.specs.Ordering.{int_eq}
 use Rattle.std.specs.List.{list_all, range_with_len}
 use Rattle.std.specs.Option.{option_map_or}
@@ -22,12 +22,12 @@ use Rattle.heap_core.specs.declared.value.Object.{Object}
 use Rattle.heap_core.specs.declared.value.Seen.{Seen}
 use Rattle.heap_core.specs.declared.value.Seen.TheVariants.{Is, Bad, Out}
 use Rattle.heap_core.specs.Posed.{Posed, InRange}
-use Rattle.heap_core.specs.Outcomes.{is_value, same_flag, gives}
+use Rattle.heap_core.specs.Outcomes.{is_value, gives}
 use Rattle.heap_core.specs.Heap.{Heap, is_of, field}
 use Rattle.heap_core.specs.Start.{has_kind, has_field_kind, is_whole}
 use Rattle.heap_core.proofs.Lists.{all_at, all_from, all_filtered, beside_map}
-use Rattle.heap_core.proofs.GivenFields.{IsGiven, field_at, field_given, gives_kind}
-use Rattle.canonical_order.proofs.Counting.{slice_get-range, range_at}
+use Rattle.heap_core.proofs.GivenFields.{field_at, field_given, gives_kind}
+use Rattle.canonical_order.proofs.Counting.{slice_get-range}
 use Rattle.rel_core.specs.declared.relation.RelVar.{RelVar}
 use Rattle.rel_core.specs.declared.indices.Indices.{Indices}
 use Rattle.rel_core.specs.Reading.{Reading, numbers_below, references, is_reference}
@@ -35,7 +35,7 @@ use Rattle.rel_core.specs.Uses.{Kinds, use_of_kind, use_of, IsOf}
 use Rattle.rel_core.specs.Shown.{ShowsValue, ShowsCell, ShowsHeap, live_relation, class_relation, field_relation, value_shown, cells_shown, object_shown, heap_shown, natural}
 use Rattle.rel_core.specs.Laws.{is_of_shown}
 use Rattle.rel_core.proofs.Read.{same_naturals}
-use Rattle.rel_core.proofs.StatesShown.{object_below, kind_of_given}
+use Rattle.rel_core.proofs.StatesShown.{kind_of_given}
 use Rattle.canon_rel.specs.Shape.{is_one_value, is_nothing, is_next, on_class, field_fits, fields_fit}
 use Rattle.canon_rel.proofs.OneValue.{IsOneValue, may_be, value_told, nothing_told, all_numbers}
 use Rattle.canon_rel.proofs.ReadingOf.{refs_references, refs_below, class_there, in_bits_there, count, live_told, few_live}

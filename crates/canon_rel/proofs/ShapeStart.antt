@@ -1,12 +1,12 @@
 -- A reading with the shape of a start shows `start_of`, whose values have their kinds.
-use Rattle.std.proofs.Common.{◌≡◌, ℕ, zero, suc, ◌+◌, ◌-◌, ◌<◌, ◌≤◌, Bool, true, false, not, ◌&&◌, ◌||◌, List, [], ◌∷◌, ◌++◌, length, Option, Some, None, inl, inr, refl, sym, ap, subst, ◌∙◌, arith, get_or}
-use Rattle.std.specs.Prelude.{◌==◌, nat_lt, pos, if◌then◌else◌, map, slice_get, option_map}
+use Rattle.std.proofs.Common.{◌≡◌, ℕ, zero, suc, ◌+◌, ◌-◌, Bool, true, false, ◌&&◌, ◌||◌, List, [], ◌∷◌, ◌++◌, length, Some, inl, inr, refl, sym, ap, subst, ◌∙◌, arith, get_or}
+use Rattle.std.specs.Prelude.{if◌then◌else◌, slice_get, option_map}
 use Rattle.std.specs.List.{list_all, range_with_len}
 use Rattle.std.specs.Option.{option_map_or}
 use Rattle.std.specs.Cmp.Lexicographic.{pointwise}
-use Rattle.std.proofs.lemmas.Bool.{lt-ltb, false≢true, cases_lt, and_parts, and_from, or_cases}
-use Rattle.std.proofs.lemmas.Option.{slice_get_within, slice_get-get_or, slice_get-map, slice_get_past, get_or_from_slice_get, same_Some, none-some}
-use Rattle.std.proofs.lemmas.List.{length-map, length-append, get_or_append_left}
+use Rattle.std.proofs.lemmas.Bool.{lt-ltb, cases_lt, and_parts, and_from}
+use Rattle.std.proofs.lemmas.Option.{slice_get_within, slice_get-get_or, slice_get-map, get_or_from_slice_get, same_Some, none-some}
+use Rattle.std.proofs.lemmas.List.{length-map, get_or_append_left}
 use Rattle.std.proofs.lemmas.List.FromFn.{length-range_with_len}
 use Rattle.std.proofs.Math.Seq.{get_or-append_seam}
 use Rattle.taco_unit.specs.declared.kind.Kind.{Kind}
@@ -23,9 +23,9 @@ use Rattle.heap_core.proofs.Lists.{slice_get-append_left, slice_get-append_right
 use Rattle.canonical_order.proofs.Counting.{slice_get-range}
 use Rattle.rel_core.specs.declared.indices.Indices.{Indices}
 use Rattle.rel_core.specs.Reading.{Reading, numbers_below}
-use Rattle.rel_core.specs.Uses.{Kinds, GivesStart, start_kinds, receiver_kinds, use_of, use_of_kind, IsOf}
+use Rattle.rel_core.specs.Uses.{Kinds, GivesStart, receiver_kinds, use_of, use_of_kind, IsOf}
 use Rattle.rel_core.specs.declared.relation.What.TheVariants as what
-use Rattle.rel_core.specs.Shown.{ShowsStart, ShowsValue, slot_relation, value_shown, variable_shown, heap_shown, arguments_shown, receiver_shown, start_of}
+use Rattle.rel_core.specs.Shown.{ShowsStart, ShowsValue, slot_relation, variable_shown, heap_shown, arguments_shown, receiver_shown, start_of}
 use Rattle.canon_rel.specs.Canonical.{HasKinds}
 use Rattle.canon_rel.specs.Shape.{is_one_object, is_one_value, is_next, on_class, fields_fit, argument_fits, receiver_fits, roots_fit, has_shape}
 use Rattle.canon_rel.proofs.OneValue.{IsOneValue, IsOneObject, value_told, object_told, all_numbers}

@@ -15,11 +15,7 @@ use sqlite_items::Boxed;
 use std::alloc::Global;
 
 /// The object is there.
-pub(crate) fn is_live(
-    alloc: Global,
-    at: &Indices,
-    object: u8,
-) -> Result<Boxed<Formula>, NoMemory>
+pub(crate) fn is_live(alloc: Global, at: &Indices, object: u8) -> Result<Boxed<Formula>, NoMemory>
     ensures meaning { IfOk result (λ f. (m : Reading) → object < m.objects → holds f m ≡ m.flag (live_relation at.now) object) }
     ensures sorted { IfOk result (λ f. (p : Posed) (kinds : Kinds) → IsTrue (nat_lt object p.scope.objects) → IsTrue (is_sorted p kinds f)) }
 {
@@ -46,11 +42,7 @@ pub(crate) fn is_of(
 }
 
 /// The object is there only where the one before it is.
-pub(crate) fn is_next(
-    alloc: Global,
-    at: &Indices,
-    object: u8,
-) -> Result<Boxed<Formula>, NoMemory>
+pub(crate) fn is_next(alloc: Global, at: &Indices, object: u8) -> Result<Boxed<Formula>, NoMemory>
     ensures meaning { IfOk result (λ f. (m : Reading) → object < m.objects → holds f m ≡ is_next_lem at.now m object) }
     ensures sorted { IfOk result (λ f. (p : Posed) (kinds : Kinds) → IsTrue (nat_lt object p.scope.objects) → IsTrue (is_sorted p kinds f)) }
 {

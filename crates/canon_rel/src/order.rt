@@ -12,8 +12,8 @@ ghost use Rattle.canon_rel.specs.Order.{has_at, comes_before as comes_before_lem
 
 use crate::objects::is_live;
 use crate::places::Place;
-use crate::problems::object_count;
 use crate::places_below::{push_fields, root_places};
+use crate::problems::object_count;
 use heap_core::Problem;
 use no_memory::NoMemory;
 use rel_core::{Formula, Indices};

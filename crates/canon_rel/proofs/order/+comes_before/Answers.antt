@@ -1,4 +1,4 @@
-use Rattle.std.proofs.Common.{not, ◌&&◌, ◌||◌, ap, ◌∙◌}
+use Rattle.std.proofs.Common.{not, ◌&&◌, ap, ◌∙◌}
 use Rattle.rel_core.specs.Meaning.{holds}
 use Rattle.canon_rel.specs.Places.{is_sorted_place}
 use Rattle.canon_rel.proofs.Along.{all_apart, comes_before_along}

@@ -8,7 +8,7 @@ pub loop-place-init : goal.loop-place-init
 loop-place-init c = none_of_parts c.new-parts.result c.new-parts.ensures
 
 pub loop-place-preserved : goal.loop-place-preserved
-loop-place-preserved c = 
+loop-place-preserved c =
     held_more c.args.places.now c.args.object c.loop-place.place-index _ c.loop-place.parts c.push.new.self c.in_ok-part.part c.loop-place.invariant (omega (arith, c.loop-place-test.true))
     (c.in_ok-push.ensures.ok ∙ ap (λ f. c.loop-place.parts ++ f ∷ []) c.into_inner.ensures) c.in_ok-part.ensures.meaning c.in_ok-part.ensures.sorted
 

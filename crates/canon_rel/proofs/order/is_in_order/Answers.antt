@@ -1,4 +1,4 @@
-use Rattle.std.proofs.Common.{◌<◌, refl, sym, ap, subst, ◌≡◌, true, not, ◌||◌, ◌∙◌, ◌∷◌, ◌++◌, [], append-nil, arith}
+use Rattle.std.proofs.Common.{◌<◌, refl, sym, ap, subst, not, ◌||◌, ◌∙◌, ◌∷◌, ◌++◌, [], append-nil, arith}
 use Rattle.std.specs.List.{list_all, range_with_len}
 use Rattle.std.proofs.lemmas.Bool.{lt-ltb}
 use Rattle.heap_core.specs.Posed.{Posed}
@@ -14,7 +14,7 @@ pub loop-object-init : goal.loop-object-init
 loop-object-init c = record { places_are = c.in_ok-places.ensures ∙ sym (append-nil (root_places c.args.problem.now c.args.at.now)); parts_are = no_parts c.new-parts.result c.new-parts.ensures }
 
 pub loop-object-preserved : goal.loop-object-preserved
-loop-object-preserved c = 
+loop-object-preserved c =
     let p = c.args.problem.now in
     let at = c.args.at.now in
     let o = c.loop-object.object in
@@ -26,12 +26,12 @@ loop-object-preserved c =
           more_parts o c.loop-object.parts c.push.new.self c.in_ok-part.part c.loop-object.invariant.parts_are
           (c.in_ok-push.ensures.ok ∙ ap (λ f. c.loop-object.parts ++ f ∷ []) c.into_inner.ensures)
           (λ m same.
-              c.in_ok-part.ensures.meaning m (ap (list_all (is_within m.objects)) (c.as_slice.ensures ∙ are) ∙ places_within p at o m.objects (omega (arith, c.loop-object-test.true, few, same))) (omega (arith, c.loop-object-test.true, few, same))
-              ∙ ap (λ ps. not (m.flag (live_relation at) o) || follows m ps o) (c.as_slice.ensures ∙ are))
+          c.in_ok-part.ensures.meaning m (ap (list_all (is_within m.objects)) (c.as_slice.ensures ∙ are) ∙ places_within p at o m.objects (omega (arith, c.loop-object-test.true, few, same))) (omega (arith, c.loop-object-test.true, few, same))
+          ∙ ap (λ ps. not (m.flag (live_relation at) o) || follows m ps o) (c.as_slice.ensures ∙ are))
           (λ q kinds so.
-              let inside : o < q.scope.objects = omega (arith, c.loop-object-test.true, few, ap (λ (p : Posed). p.scope.objects) so.0) in
-              c.in_ok-part.ensures.sorted q kinds
-              (ap (list_all (is_sorted_place q kinds)) (c.as_slice.ensures ∙ are ∙ ap (λ p. places_below p at o) (sym so.0)) ∙ places_sorted q kinds at o (subst (λ p. GivesStart p kinds) (sym so.0) so.1) (omega (arith, inside))) (lt-ltb o q.scope.objects inside));
+          let inside : o < q.scope.objects = omega (arith, c.loop-object-test.true, few, ap (λ (p : Posed). p.scope.objects) so.0) in
+          c.in_ok-part.ensures.sorted q kinds
+          (ap (list_all (is_sorted_place q kinds)) (c.as_slice.ensures ∙ are ∙ ap (λ p. places_below p at o) (sym so.0)) ∙ places_sorted q kinds at o (subst (λ p. GivesStart p kinds) (sym so.0) so.1) (omega (arith, inside))) (lt-ltb o q.scope.objects inside));
     }
 
 pub returns-clause-meaning : goal.returns-clause-meaning

@@ -11,7 +11,7 @@ pub loop-field-init : goal.loop-field-init
 loop-field-init c = sym (append-nil c.args.places.now)
 
 pub loop-field-preserved : goal.loop-field-preserved
-loop-field-preserved c = 
+loop-field-preserved c =
     let at = c.args.at.now in
     let o = c.args.object in
     let u = c.args.problem.now.unit in
@@ -22,7 +22,7 @@ loop-field-preserved c =
     ∙ ap (λ ps. c.args.places.now ++ ps) (sym (kept_more (λ f. place.Field (field_relation at f) o) (is_link u) f))
 
 pub returns : goal.returns
-returns c = 
+returns c =
     let at = c.args.at.now in
     let o = c.args.object in
     let u = c.args.problem.now.unit in

@@ -7,5 +7,5 @@ use Rattle.canon_rel.specs.declared.places.Place.TheVariants as place
 use Rattle.canon_rel.proofs.places_below.push_fields.Given as goal
 
 abbrev pub invariant-loop-field : goal.invariant-loop-field
-invariant-loop-field l = 
+invariant-loop-field l =
     l.places ≡ l.initial.places ++ map (λ f. place.Field (field_relation l.at f) l.object) (filter (is_link l.problem.unit) (range_with_len 0 l.field))

@@ -12,14 +12,14 @@ pub loop-root-init : goal.loop-root-init
 loop-root-init c = c.new-places.ensures
 
 pub loop-root-preserved : goal.loop-root-preserved
-loop-root-preserved c = 
+loop-root-preserved c =
     let at = c.args.at.now in
     let d = c.method_in-method.result.now in
     let r = c.loop-root.root in
     c.in_ok-push_root.ensures ∙ ap (λ ps. ps ++ (if is_root d r then root_place at d r ∷ [] else [])) c.loop-root.invariant ∙ sym (kept_more (root_place at d) (is_root d) r)
 
 pub returns : goal.returns
-returns c = 
+returns c =
     let at = c.args.at.now in
     let d = c.method_in-method.result.now in
     c.loop-root.invariant ∙ ap (λ n. map (root_place at d) (filter (is_root d) (range_with_len 0 n))) (omega (arith, c.loop-root-test.false, c.loop-root.auto.root-end, c.len-count.ensures))

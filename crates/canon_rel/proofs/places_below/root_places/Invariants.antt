@@ -6,5 +6,5 @@ use Rattle.canon_rel.specs.Places.{root_place}
 use Rattle.canon_rel.proofs.places_below.root_places.Given as goal
 
 abbrev pub invariant-loop-root : goal.invariant-loop-root
-invariant-loop-root l = 
+invariant-loop-root l =
     l.places ≡ map (root_place l.at l.method) (filter (is_root l.method) (range_with_len 0 l.root))

@@ -10,13 +10,13 @@ pub loop-object-init : goal.loop-object-init
 loop-object-init c = no_parts c.new-parts.result c.new-parts.ensures
 
 pub loop-object-preserved : goal.loop-object-preserved
-loop-object-preserved c = 
+loop-object-preserved c =
     more_parts c.loop-object.object c.loop-object.parts c.push.new.self c.in_ok-part.part c.loop-object.invariant
     (c.in_ok-push.ensures.ok ∙ ap (λ f. c.loop-object.parts ++ f ∷ []) c.into_inner.ensures)
     (λ m same. c.in_ok-part.ensures.meaning m (omega (arith, c.loop-object-test.true, c.object_count-count.ensures, same)))
-    (λ p kinds same. 
-        subst (λ p. is_sorted p kinds c.in_ok-part.part ≡ true) (sym same)
-        (c.in_ok-part.ensures.sorted kinds (lt-ltb c.loop-object.object c.args.problem.now.scope.objects (omega (arith, c.loop-object-test.true, c.object_count-count.ensures)))))
+    (λ p kinds same.
+    subst (λ p. is_sorted p kinds c.in_ok-part.part ≡ true) (sym same)
+    (c.in_ok-part.ensures.sorted kinds (lt-ltb c.loop-object.object c.args.problem.now.scope.objects (omega (arith, c.loop-object-test.true, c.object_count-count.ensures)))))
 
 pub returns-clause-meaning : goal.returns-clause-meaning
 returns-clause-meaning c = λ m same.

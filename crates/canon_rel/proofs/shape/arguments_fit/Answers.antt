@@ -11,7 +11,7 @@ pub loop-variable-init : goal.loop-variable-init
 loop-variable-init c = no_parts c.new-parts.result c.new-parts.ensures
 
 pub loop-variable-preserved : goal.loop-variable-preserved
-loop-variable-preserved c = 
+loop-variable-preserved c =
     more_parts c.loop-variable.variable c.loop-variable.parts c.push.new.self c.in_ok-part.part c.loop-variable.invariant
     (c.in_ok-push.ensures.ok ∙ ap (λ f. c.loop-variable.parts ++ f ∷ []) c.into_inner.ensures)
     (λ m inside. c.in_ok-part.ensures.meaning m ∙ sym (ap (λ q. option_map_or (argument_fits c.args.at.now m c.loop-variable.variable) q true) c.param_at.ensures))

@@ -1,9 +1,8 @@
-use Rattle.std.proofs.Common.{◌≡◌, true, refl, sym, subst, ap, ◌∙◌, ◌∷◌, ◌++◌, [], arith}
-use Rattle.std.specs.Prelude.{nat_lt, slice_get}
+use Rattle.std.proofs.Common.{true, refl, sym, ap, ◌∙◌, ◌∷◌, ◌++◌, [], arith}
+use Rattle.std.specs.Prelude.{slice_get}
 use Rattle.std.specs.List.{list_all, range_with_len}
 use Rattle.std.specs.Option.{option_map_or}
 use Rattle.heap_core.specs.Posed.{Posed}
-use Rattle.rel_core.specs.Uses.{is_sorted}
 use Rattle.canon_rel.specs.Shape.{field_fits}
 use Rattle.canon_rel.proofs.Gathered.{no_parts, more_parts}
 use Rattle.canon_rel.proofs.shape.fields_fit.Goals as goal
@@ -12,7 +11,7 @@ pub loop-field-init : goal.loop-field-init
 loop-field-init c = no_parts c.new-parts.result c.new-parts.ensures
 
 pub loop-field-preserved : goal.loop-field-preserved
-loop-field-preserved c = 
+loop-field-preserved c =
     more_parts c.loop-field.field c.loop-field.parts c.push.new.self c.in_ok-part.part c.loop-field.invariant
     (c.in_ok-push.ensures.ok ∙ ap (λ f. c.loop-field.parts ++ f ∷ []) c.into_inner.ensures)
     (λ m inside. c.in_ok-part.ensures.meaning m inside ∙ sym (ap (λ d. option_map_or (field_fits c.args.at.now m c.args.object c.loop-field.field) d true) c.field_of.ensures))

@@ -1,4 +1,4 @@
-use Rattle.std.proofs.Common.{false, ◌&&◌, ap, ◌∙◌}
+use Rattle.std.proofs.Common.{◌&&◌, ap, ◌∙◌}
 use Rattle.std.specs.List.{list_all}
 use Rattle.rel_core.specs.Meaning.{holds}
 use Rattle.rel_core.specs.Reading.{numbers_below}
