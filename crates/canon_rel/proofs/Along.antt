@@ -28,5 +28,6 @@ comes_before_along m places a b d before passed here later some all is is_passed
     let parts = all_apart (is_within m.objects) places d some all in
     let one = get_or places 0 d in
     let behind = rest_of places in
-    is ∙ ap (λ x. not x && (here || later)) (is_passed parts.0) ∙ ap (λ x. not (has_at m b one) && (x || later)) (is_here parts.0) ∙ ap (λ x. not (has_at m b one) && (has_at m a one || x)) (is_later parts.1)
+    is ∙ ap (λ x. not x && (here || later)) (is_passed parts.0) ∙ ap (λ x. not (has_at m b one) && (x || later)) (is_here parts.0)
+    ∙ ap (λ x. not (has_at m b one) && (has_at m a one || x)) (is_later parts.1)
     ∙ sym (ap (λ ps. comes_before m ps a b) (taken_apart places d some) ∙ first_step (has_at m a one) (has_at m b one) (position_or_len (has_at m a) behind) (position_or_len (has_at m b) behind))

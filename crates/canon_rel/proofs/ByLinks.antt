@@ -1,6 +1,7 @@
 -- The law of canonical starts: a start whose values have their kinds fits and is canonical exactly where each object is
 -- given by a root or by a class-kind field of an object below it, and the object before it is given first there.
-use Rattle.std.proofs.Common.{◌≡◌, ℕ, zero, suc, ◌+◌, ◌-◌, ◌<◌, ◌≤◌, Bool, true, false, ◌||◌, List, [], ◌∷◌, ◌++◌, length, Option, Some, None, inl, inr, refl, sym, ap, subst, ◌∙◌, arith, get_or, append_assoc}
+use Rattle.std.proofs.Common.{◌≡◌, ℕ, zero, suc, ◌+◌, ◌-◌, ◌<◌, ◌≤◌, Bool, true, false, ◌||◌, List, [], ◌∷◌}
+use Rattle.std.proofs.Common.{◌++◌, length, Option, Some, None, inl, inr, refl, sym, ap, subst, ◌∙◌, arith, get_or, append_assoc}
 use Rattle.std.specs.Prelude.{◌==◌, map, flat_map, position, slice_get, slice_index, option_and_then, Contains}
 use Rattle.std.specs.List.{list_any, range_with_len, position_or_len}
 use Rattle.std.specs.List.Sorted.{IsStrictlyIncreasing}
@@ -73,7 +74,8 @@ only_place xs up i f there =
     rw (first, lt-ltb i (length xs) within) refl
 
 -- of two lists that go side by side, the first has an item where the second has one, and the two fit
-beside_back : {A B : Type 0} (fits : A → B → Bool) (xs : List A) (ys : List B) (i : ℕ) (y : B) → pointwise fits xs ys ≡ true → slice_get ys i ≡ Some y → (x : A) × (slice_get xs i ≡ Some x) × (fits x y ≡ true)
+beside_back : {A B : Type 0} (fits : A → B → Bool) (xs : List A) (ys : List B) (i : ℕ) (y : B) → pointwise fits xs ys ≡ true → slice_get ys i ≡ Some y
+    → (x : A) × (slice_get xs i ≡ Some x) × (fits x y ≡ true)
 beside_back fits [] [] i y all there = absurd (cc)
 beside_back fits [] (z ∷ ys) i y all there = absurd (false≢true all)
 beside_back fits (x ∷ xs) [] i y all there = absurd (false≢true all)
@@ -97,7 +99,8 @@ module _ (p : Posed) (s : Start) (well : IsWell p.unit) (kinds : HasKinds s p) w
   link_held : (q o : ℕ) → list_any (gives_object o) (links_at p s.objects q) ≡ true → (x : Object) × (slice_get s.objects q ≡ Some x) × Contains x.cells (Obj o)
   link_held q o some =
       let link = found (gives_object o) (links_at p s.objects q) some in
-      let one = found (λ f. gives_object o (field p.unit.classes s.objects f (Obj q))) (links_of p.unit) (sym (some_of_map (gives_object o) (λ f. field p.unit.classes s.objects f (Obj q)) (links_of p.unit)) ∙ some) in
+      let one = found (λ f. gives_object o (field p.unit.classes s.objects f (Obj q))) (links_of p.unit)
+      (sym (some_of_map (gives_object o) (λ f. field p.unit.classes s.objects f (Obj q)) (links_of p.unit)) ∙ some) in
       at_object one.item (slice_get s.objects q) refl (given_same o (field p.unit.classes s.objects one.item (Obj q)) one.passes)
     where
       at_place : (f : ℕ) (x : Object) → (i : Option ℕ) → value_in (option_and_then (λ i. slice_get x.cells i) i) ≡ Is (Obj o) → Contains x.cells (Obj o)
@@ -108,7 +111,8 @@ module _ (p : Posed) (s : Start) (well : IsWell p.unit) (kinds : HasKinds s p) w
           at_cell None there is = absurd (cc)
           at_cell (Some v) there is = let same : v ≡ Obj o = cc in contains_at x.cells i (Obj o) (there ∙ ap Some same)
 
-      at_object : (f : ℕ) (x : Option Object) → slice_get s.objects q ≡ x → cell_of p.unit.classes f (slice_get s.objects q) ≡ Is (Obj o) → (x : Object) × (slice_get s.objects q ≡ Some x) × Contains x.cells (Obj o)
+      at_object : (f : ℕ) (x : Option Object) → slice_get s.objects q ≡ x → cell_of p.unit.classes f (slice_get s.objects q) ≡ Is (Obj o)
+          → (x : Object) × (slice_get s.objects q ≡ Some x) × Contains x.cells (Obj o)
       at_object f None there is = absurd (let lacks : Bad ≡ Is (Obj o) = ap (cell_of p.unit.classes f) (sym there) ∙ is in cc)
       at_object f (Some x) there is = (x, there, at_place f x (place_of p.unit.classes x.class f) (ap (cell_of p.unit.classes f) (sym there) ∙ is))
 
@@ -125,7 +129,8 @@ module _ (p : Posed) (s : Start) (well : IsWell p.unit) (kinds : HasKinds s p) w
       of_kind f g kind.Int same listed has = absurd (false≢true has)
       of_kind f g kind.Flag same listed has = absurd (false≢true has)
 
-      of_field : (f : ℕ) → (g : Option FieldDef) → slice_get p.unit.fields f ≡ g → option_map_or (λ (g : FieldDef). has_kind p.scope.ints s.objects g.kind (Obj o)) g false ≡ true → is_link p.unit f ≡ true
+      of_field : (f : ℕ) → (g : Option FieldDef) → slice_get p.unit.fields f ≡ g → option_map_or (λ (g : FieldDef). has_kind p.scope.ints s.objects g.kind (Obj o)) g false ≡ true
+          → is_link p.unit f ≡ true
       of_field f None listed has = absurd (false≢true has)
       of_field f (Some g) listed has = of_kind f g g.kind refl listed has
 
@@ -144,7 +149,8 @@ module _ (p : Posed) (s : Start) (well : IsWell p.unit) (kinds : HasKinds s p) w
           let gives : field p.unit.classes s.objects f (Obj q) ≡ Is (Obj o) =
           ap (cell_of p.unit.classes f) there ∙ ap value_in (ap (option_and_then (λ i. slice_get x.cells i)) place ∙ stands)
           in
-          let one = found (λ g. g == f) (links_of p.unit) (any_filtered (is_link p.unit) f link numbers (any_below (λ g. g == f) (length p.unit.fields) f (link_below p.unit f link) (eq-eqb f f refl))) in
+          let one = found (λ g. g == f) (links_of p.unit)
+          (any_filtered (is_link p.unit) f link numbers (any_below (λ g. g == f) (length p.unit.fields) f (link_below p.unit f link) (eq-eqb f f refl))) in
           let passes : gives_object o (field p.unit.classes s.objects one.item (Obj q)) ≡ true =
           ap (λ g. gives_object o (field p.unit.classes s.objects g (Obj q))) (eqb-true one.item f one.passes) ∙ ap (gives_object o) gives ∙ eq-eqb o o refl
           in
@@ -163,7 +169,8 @@ module _ (p : Posed) (s : Start) (well : IsWell p.unit) (kinds : HasKinds s p) w
   grown : (j k : ℕ) → j ≤ k → below k ≡ below j ++ flat_map (links_at p s.objects) (range_with_len j (k - j))
   grown j k le =
       let whole : j + (k - j) ≡ k = omega (arith, le) in
-      let cut : range_with_len 0 k ≡ range_with_len 0 j ++ range_with_len j (k - j) = ap (range_with_len 0) (sym whole) ∙ range_cut 0 j (k - j) ∙ ap (λ b. range_with_len 0 j ++ range_with_len b (k - j)) (omega arith) in
+      let cut : range_with_len 0 k ≡ range_with_len 0 j ++ range_with_len j (k - j) = ap (range_with_len 0) (sym whole) ∙ range_cut 0 j (k - j)
+      ∙ ap (λ b. range_with_len 0 j ++ range_with_len b (k - j)) (omega arith) in
       ap (λ ns. map Is (s.this ∷ s.args) ++ flat_map (links_at p s.objects) ns) cut
       ∙ ap (λ es. map Is (s.this ∷ s.args) ++ es) (flat_map-append (links_at p s.objects) (range_with_len 0 j) (range_with_len j (k - j)))
       ∙ sym (append_assoc (map Is (s.this ∷ s.args)) (flat_map (links_at p s.objects) (range_with_len 0 j)) (flat_map (links_at p s.objects) (range_with_len j (k - j))))
@@ -195,7 +202,8 @@ module _ (p : Posed) (s : Start) (well : IsWell p.unit) (kinds : HasKinds s p) w
     reached : (k j : ℕ) → j < k → j < length s.objects → Reached s j
     reached zero j less within = absurd (omega (arith, less))
     reached (suc k) j less within =
-        elim (or_cases (list_any (is_object j) (s.this ∷ s.args)) (list_any (λ q. list_any (gives_object j) (links_at p s.objects q)) (range_with_len 0 j)) (sym (parts_of j j) ∙ (given j within).given)) [
+        elim (or_cases (list_any (is_object j) (s.this ∷ s.args)) (list_any (λ q. list_any (gives_object j) (links_at p s.objects q)) (range_with_len 0 j))
+        (sym (parts_of j j) ∙ (given j within).given)) [
           | inl at_root ↦
               let one = found (is_object j) (s.this ∷ s.args) at_root in
               root j (contains_at (s.this ∷ s.args) one.place (Obj j) (one.there ∙ ap Some (object_same j one.item one.passes)))

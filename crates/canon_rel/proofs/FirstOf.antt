@@ -60,7 +60,8 @@ module _ {A : Type 0} (test : A → Bool) where
     | inr beyond ↦
         let one = found xs is in
         let inside : one.place < length xs = slice_get_within xs one.place one.item one.there in
-        absurd (false≢true (sym (fails_before_first test xs one.place one.item (omega (arith, inside, beyond))) ∙ ap test (get_or_from_slice_get xs one.place one.item one.item one.there) ∙ one.passes))
+        absurd (false≢true (sym (fails_before_first test xs one.place one.item (omega (arith, inside, beyond))) ∙ ap test (get_or_from_slice_get xs one.place one.item one.item one.there)
+        ∙ one.passes))
   ]
 
   pub some_from_first : (xs : List A) (d : A) → position_or_len test xs < length xs → list_any test xs ≡ true

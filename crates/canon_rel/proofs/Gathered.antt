@@ -85,7 +85,8 @@ module _ {A : Type 0} {within : Reading → Type 0} {given : Posed → Kinds →
 -- ## lists of places
 
 pub kept_more : {A : Type 0} (f : ℕ → A) (t : ℕ → Bool) (n : ℕ) → map f (filter t (range_with_len 0 (n + 1))) ≡ map f (filter t (range_with_len 0 n)) ++ (if t n then f n ∷ [] else [])
-kept_more f t n = ap (λ ns. map f (filter t ns)) (range_last n) ∙ ap (map f) (filter-append t (range_with_len 0 n) (n ∷ [])) ∙ map-append f (filter t (range_with_len 0 n)) (filter t (n ∷ [])) ∙ ap (λ ys. map f (filter t (range_with_len 0 n)) ++ ys) last
+kept_more f t n = ap (λ ns. map f (filter t ns)) (range_last n) ∙ ap (map f) (filter-append t (range_with_len 0 n) (n ∷ [])) ∙ map-append f (filter t (range_with_len 0 n)) (filter t (n ∷ []))
+    ∙ ap (λ ys. map f (filter t (range_with_len 0 n)) ++ ys) last
   where
     last : map f (filter t (n ∷ [])) ≡ (if t n then f n ∷ [] else [])
     last = elim (cases_Bool (t n)) [
@@ -96,7 +97,8 @@ kept_more f t n = ap (λ ns. map f (filter t ns)) (range_last n) ∙ ap (map f) 
 pub places_more : (p : Posed) (at : Indices) (n : ℕ) → places_below p at (n + 1) ≡ places_below p at n ++ field_places p at n
 places_more p at n =
     ap (λ ns. root_places p at ++ flat_map (field_places p at) ns) (range_last n)
-    ∙ ap (λ ps. root_places p at ++ ps) (flat_map-append (field_places p at) (range_with_len 0 n) (n ∷ []) ∙ ap (λ ps. flat_map (field_places p at) (range_with_len 0 n) ++ ps) (flat_map-cons (field_places p at) n [] ∙ append-nil (field_places p at n)))
+    ∙ ap (λ ps. root_places p at ++ ps) (flat_map-append (field_places p at) (range_with_len 0 n) (n ∷ [])
+    ∙ ap (λ ps. flat_map (field_places p at) (range_with_len 0 n) ++ ps) (flat_map-cons (field_places p at) n [] ∙ append-nil (field_places p at n)))
     ∙ sym (append_assoc (root_places p at) (flat_map (field_places p at) (range_with_len 0 n)) (field_places p at n))
 
 -- ## loops

@@ -54,7 +54,8 @@ set_use kind.Flag link = absurd (false≢true link)
 pub variable_sorted : (p : Posed) (kinds : Kinds) (at : Indices) (x : ℕ) (k : Kind) → kinds x ≡ Some k → is_class_kind k ≡ true → is_variable p kinds AsSet (slot_relation at x) ≡ true
 variable_sorted p kinds at x k known link = ap (λ k. option_map_or (same_use AsSet) (option_map use_of_kind k) false) known ∙ set_use k link
 
-pub field_sorted : (p : Posed) (kinds : Kinds) (at : Indices) (f : ℕ) (d : FieldDef) → slice_get p.unit.fields f ≡ Some d → is_class_kind d.kind ≡ true → is_spread p kinds AsSet (field_relation at f) ≡ true
+pub field_sorted : (p : Posed) (kinds : Kinds) (at : Indices) (f : ℕ) (d : FieldDef) → slice_get p.unit.fields f ≡ Some d → is_class_kind d.kind ≡ true
+    → is_spread p kinds AsSet (field_relation at f) ≡ true
 field_sorted p kinds at f d there link = ap (λ d. option_map_or (same_use AsSet) (option_map (λ (d : FieldDef). use_of_kind d.kind) d) false) there ∙ set_use d.kind link
 
 module _ (p : Posed) (kinds : Kinds) (gives : GivesStart p kinds) (d : MethodDef) (called : method_of p ≡ Some d) where
@@ -89,7 +90,8 @@ module _ (p : Posed) (kinds : Kinds) (gives : GivesStart p kinds) (d : MethodDef
 link_sorted : (p : Posed) (kinds : Kinds) (at : Indices) (o f : ℕ) → nat_lt o p.scope.objects ≡ true → is_link p.unit f ≡ true → is_sorted_place p kinds (place.Field (field_relation at f) o) ≡ true
 link_sorted p kinds at o f below link = go (slice_get p.unit.fields f) refl link
   where
-    go : (d : Option FieldDef) → slice_get p.unit.fields f ≡ d → option_map_or (λ (d : FieldDef). is_class_kind d.kind) d false ≡ true → is_sorted_place p kinds (place.Field (field_relation at f) o) ≡ true
+    go : (d : Option FieldDef) → slice_get p.unit.fields f ≡ d → option_map_or (λ (d : FieldDef). is_class_kind d.kind) d false ≡ true
+        → is_sorted_place p kinds (place.Field (field_relation at f) o) ≡ true
     go None there link = absurd (false≢true link)
     go (Some d) there link = and_from (nat_lt o p.scope.objects) (is_spread p kinds AsSet (field_relation at f)) below (field_sorted p kinds at f d there link)
 
@@ -100,12 +102,14 @@ places_sorted p kinds at n gives few =
   where
     roots : (d : Option MethodDef) → method_of p ≡ d → list_all (is_sorted_place p kinds) (option_map_or (λ (d : MethodDef). map (root_place at d) (roots_of d)) d []) ≡ true
     roots None called = refl
-    roots (Some d) called = all_of_map (is_sorted_place p kinds) (root_place at d) (is_root d) (roots_of d) (root_sorted p kinds gives d called at) (all_filtered (is_root d) (range_with_len 0 (length d.params + 1)))
+    roots (Some d) called = all_of_map (is_sorted_place p kinds) (root_place at d) (is_root d) (roots_of d) (root_sorted p kinds gives d called at)
+        (all_filtered (is_root d) (range_with_len 0 (length d.params + 1)))
 
     fields : list_all (is_sorted_place p kinds) (flat_map (field_places p at) (range_with_len 0 n)) ≡ true
     fields =
         all_of_flat (is_sorted_place p kinds) (field_places p at) (λ o. nat_lt o p.scope.objects) (range_with_len 0 n)
-        (λ o below. all_of_map (is_sorted_place p kinds) (λ f. place.Field (field_relation at f) o) (is_link p.unit) (links_of p.unit) (λ f link. link_sorted p kinds at o f below link) (all_filtered (is_link p.unit) (range_with_len 0 (length p.unit.fields))))
+        (λ o below. all_of_map (is_sorted_place p kinds) (λ f. place.Field (field_relation at f) o) (is_link p.unit) (links_of p.unit) (λ f link. link_sorted p kinds at o f below link)
+        (all_filtered (is_link p.unit) (range_with_len 0 (length p.unit.fields))))
         (below_all p.scope.objects 0 n (omega (arith, few)))
 
 pub places_within : (p : Posed) (at : Indices) (n objects : ℕ) → n ≤ objects → list_all (is_within objects) (places_below p at n) ≡ true
@@ -120,5 +124,6 @@ places_within p at n objects few =
     fields : list_all (is_within objects) (flat_map (field_places p at) (range_with_len 0 n)) ≡ true
     fields =
         all_of_flat (is_within objects) (field_places p at) (λ o. nat_lt o objects) (range_with_len 0 n)
-        (λ o below. all_of_map (is_within objects) (λ f. place.Field (field_relation at f) o) (is_link p.unit) (links_of p.unit) (λ f link. below) (all_filtered (is_link p.unit) (range_with_len 0 (length p.unit.fields))))
+        (λ o below. all_of_map (is_within objects) (λ f. place.Field (field_relation at f) o) (is_link p.unit) (links_of p.unit) (λ f link. below)
+        (all_filtered (is_link p.unit) (range_with_len 0 (length p.unit.fields))))
         (below_all objects 0 n (omega (arith, few)))

@@ -258,7 +258,8 @@ module _ (m : Reading) (at : Indices) (c : ℕ) (s : ValueSet) where
       and_from (is_subset m s is_null) (not (is_subset m is_null s)) (subset_from m s is_null (λ v is holds. absurd (false≢true (sym (none v) ∙ holds)))) (no_null_within (none Null))
 
   pub null_from : ((u : Value) → s u ≡ is_value Null u) → is_null_alone m s ≡ true
-  null_from alone = and_from (is_subset m s is_null) (is_subset m is_null s) (subset_from m s is_null (λ v is holds. null_is v (sym (alone v) ∙ holds))) (subset_from m is_null s (λ v is null. alone v ∙ is_null_value v null))
+  null_from alone = and_from (is_subset m s is_null) (is_subset m is_null s) (subset_from m s is_null (λ v is holds. null_is v (sym (alone v) ∙ holds)))
+      (subset_from m is_null s (λ v is null. alone v ∙ is_null_value v null))
     where
       null_is : (v : Value) → is_value Null v ≡ true → is_null v ≡ true
       null_is Null is = refl

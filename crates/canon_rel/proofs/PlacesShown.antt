@@ -231,10 +231,12 @@ module _ (p : Posed) (m : Reading) (at : Indices) (s : Start) (few : m.objects �
       go : (d : Option MethodDef) → method_of p ≡ d
           → option_map_or (λ (m : MethodDef). is_receiver s.objects m.class m.fixed s.this) d false ≡ true
           → option_map_or (λ (m : MethodDef). pointwise (is_argument p.scope.ints s.objects) m.params s.args) d false ≡ true
-          → Same (has_at m) gives_object (option_map_or (λ (d : MethodDef). map (root_place at d) (roots_of d)) d [] ++ flat_map (field_places p at) (range_with_len 0 j)) (link_places p s (range_with_len 0 j))
+          → Same (has_at m) gives_object (option_map_or (λ (d : MethodDef). map (root_place at d) (roots_of d)) d [] ++ flat_map (field_places p at) (range_with_len 0 j))
+          (link_places p s (range_with_len 0 j))
       go None called receiver arguments = absurd (false≢true receiver)
       go (Some d) called receiver arguments =
-          appended (has_at m) gives_object (map (root_place at d) (roots_of d)) (flat_map (field_places p at) (range_with_len 0 j)) (map Is (s.this ∷ s.args)) (flat_map (links_at p s.objects) (range_with_len 0 j))
+          appended (has_at m) gives_object (map (root_place at d) (roots_of d)) (flat_map (field_places p at) (range_with_len 0 j)) (map Is (s.this ∷ s.args))
+          (flat_map (links_at p s.objects) (range_with_len 0 j))
           (roots_same p m at s d called shown receiver arguments) (fields_same p m at s shown (range_with_len 0 j))
 
   abbrev seen_below : ℕ → List Seen
@@ -250,7 +252,8 @@ module _ (p : Posed) (m : Reading) (at : Indices) (s : Start) (few : m.objects �
       let parts = and_parts (list_any (gives_object j) (seen_below j)) (j == 0 || nat_lt (first_link (seen_below j) (j - 1)) (first_link (seen_below j) j)) (sym (follows_is j) ∙ is) in
       record {
         given = parts.0;
-        after = λ positive. ltb-true (first_link (seen_below j) (j - 1)) (first_link (seen_below j) j) (sym (ap (λ b. b || nat_lt (first_link (seen_below j) (j - 1)) (first_link (seen_below j) j)) (ne_eqb j 0 (λ zero. omega (arith, zero, positive)))) ∙ parts.1);
+        after = λ positive. ltb-true (first_link (seen_below j) (j - 1)) (first_link (seen_below j) j)
+            (sym (ap (λ b. b || nat_lt (first_link (seen_below j) (j - 1)) (first_link (seen_below j) j)) (ne_eqb j 0 (λ zero. omega (arith, zero, positive)))) ∙ parts.1);
       }
 
   follows_from : (j : ℕ) → IsGivenBelow p s j → follows m (places_below p at j) j ≡ true
@@ -268,7 +271,8 @@ module _ (p : Posed) (m : Reading) (at : Indices) (s : Start) (few : m.objects �
   given_in_order all j within =
       let inside : j < p.scope.objects = omega (arith, within, kinds.few_objects) in
       let live : m.flag (live_relation at) j ≡ true = shown.heap.live j ∙ lt-ltb j (length s.objects) within in
-      let here = all_at (λ j. not (m.flag (live_relation at) j) || follows m (places_below p at j) j) (numbers_below p.scope.objects) j j all (slice_get-range 0 p.scope.objects j inside ∙ ap Some (omega arith)) in
+      let here = all_at (λ j. not (m.flag (live_relation at) j) || follows m (places_below p at j) j) (numbers_below p.scope.objects) j j all
+      (slice_get-range 0 p.scope.objects j inside ∙ ap Some (omega arith)) in
       given_from j (sym (ap (λ b. not b || follows m (places_below p at j) j) live) ∙ here)
 
   pub in_order_from : ((j : ℕ) → j < length s.objects → IsGivenBelow p s j) → is_in_order p at m ≡ true

@@ -136,15 +136,17 @@ module _ (p : Posed) (m : Reading) (at : Indices) (well : IsWell p.unit) (range 
 
   -- a relation of a kind has numbers within the bits
   pub in_bits_there : (r : RelVar) (o : ℕ) (k : Kind) → use_of p kinds r.what ≡ Some (use_of_kind k) → in_bits p.scope.ints (m.number r o) ≡ true
-  in_bits_there r o k used = elim (or_cases (int_eq (m.number r o) (pos 0) || (has_place p kinds AsNumber r o && in_bits p.scope.ints (m.number r o))) (has_place p kinds AsClass r o && is_class_number p (m.number r o)) (of.numbers r o)) [
-    | inl other ↦ elim (or_cases (int_eq (m.number r o) (pos 0)) (has_place p kinds AsNumber r o && in_bits p.scope.ints (m.number r o)) other) [
-      | inl is_zero ↦
-          ap (in_bits p.scope.ints) ((Decides-int_eq (m.number r o) (pos 0)).0 is_zero)
-          ∙ lt-ltb 0 (2 ^ (p.scope.ints - 1)) (pow_pos (p.scope.ints - 1))
-      | inr number ↦ (and_parts (has_place p kinds AsNumber r o) (in_bits p.scope.ints (m.number r o)) number).1
-    ]
-    | inr class ↦ absurd (false≢true (sym (never k) ∙ sym (ap (λ w. option_map_or (same_use AsClass) w false) used) ∙ place_use AsClass r o (and_parts (has_place p kinds AsClass r o) (is_class_number p (m.number r o)) class).0))
-  ]
+  in_bits_there r o k used = elim (or_cases (int_eq (m.number r o) (pos 0) || (has_place p kinds AsNumber r o && in_bits p.scope.ints (m.number r o)))
+      (has_place p kinds AsClass r o && is_class_number p (m.number r o)) (of.numbers r o)) [
+        | inl other ↦ elim (or_cases (int_eq (m.number r o) (pos 0)) (has_place p kinds AsNumber r o && in_bits p.scope.ints (m.number r o)) other) [
+          | inl is_zero ↦
+              ap (in_bits p.scope.ints) ((Decides-int_eq (m.number r o) (pos 0)).0 is_zero)
+              ∙ lt-ltb 0 (2 ^ (p.scope.ints - 1)) (pow_pos (p.scope.ints - 1))
+          | inr number ↦ (and_parts (has_place p kinds AsNumber r o) (in_bits p.scope.ints (m.number r o)) number).1
+        ]
+        | inr class ↦ absurd (false≢true (sym (never k) ∙ sym (ap (λ w. option_map_or (same_use AsClass) w false) used)
+            ∙ place_use AsClass r o (and_parts (has_place p kinds AsClass r o) (is_class_number p (m.number r o)) class).0))
+      ]
     where
       never : (k : Kind) → same_use AsClass (use_of_kind k) ≡ false
       never kind.Int = refl

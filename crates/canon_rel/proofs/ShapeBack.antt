@@ -83,18 +83,21 @@ module _ (p : Posed) (m : Reading) (at : Indices) (s : Start) (well : IsWell p.u
         where
           lacks : (e : Seen) → field p.unit.classes s.objects f (Obj o) ≡ e → gives v e ≡ false
           lacks (Is w) is =
-              absurd (false≢true (sym (of_class g.class o ∙ other) ∙ sym given.value ∙ ap (gives_kind p.scope.ints s.objects g.kind) is ∙ kind_of_given p.scope.ints s.objects g o (field p.unit.classes s.objects f (Obj o)) given w is))
+              absurd (false≢true (sym (of_class g.class o ∙ other) ∙ sym given.value ∙ ap (gives_kind p.scope.ints s.objects g.kind) is
+              ∙ kind_of_given p.scope.ints s.objects g o (field p.unit.classes s.objects f (Obj o)) given w is))
           lacks Bad is = refl
           lacks Out is = refl
 
   fields : list_all (fields_fit p at m) (numbers_below p.scope.objects) ≡ true
-  fields = each_number (fields_fit p at m) p.scope.objects (λ o inside. each_number (λ f. option_map_or (field_fits at m o f) (slice_get p.unit.fields f) true) (length p.unit.fields) (λ f within. go o f (slice_get p.unit.fields f) refl))
+  fields = each_number (fields_fit p at m) p.scope.objects
+      (λ o inside. each_number (λ f. option_map_or (field_fits at m o f) (slice_get p.unit.fields f) true) (length p.unit.fields) (λ f within. go o f (slice_get p.unit.fields f) refl))
     where
       go : (o f : ℕ) (g : Option FieldDef) → slice_get p.unit.fields f ≡ g → option_map_or (field_fits at m o f) g true ≡ true
       go o f None there = refl
       go o f (Some g) there = field_is o f g g.kind there refl
 
-  module _ (d : MethodDef) (called : method_of p ≡ Some d) (receiver : is_receiver s.objects d.class d.fixed s.this ≡ true) (arguments : pointwise (is_argument p.scope.ints s.objects) d.params s.args ≡ true) where
+  module _ (d : MethodDef) (called : method_of p ≡ Some d) (receiver : is_receiver s.objects d.class d.fixed s.this ≡ true)
+      (arguments : pointwise (is_argument p.scope.ints s.objects) d.params s.args ≡ true) where
     receiver_is : receiver_fits at m d ≡ true
     receiver_is = go d.fixed refl receiver
       where
@@ -118,7 +121,8 @@ module _ (p : Posed) (m : Reading) (at : Indices) (s : Start) (well : IsWell p.u
         of_kind x q kind.Flag there same = refl
         of_kind x q (kind.Ref c) there same =
             let value = argument_value p m at s d called shown receiver arguments x q there in
-            one_value c (slot_relation at x) 0 value.value (subst (λ k. ShowsValue m k (slot_relation at x) 0 value.value) same value.is_shown) (ap (λ k. has_kind p.scope.ints s.objects k value.value) (sym same) ∙ value.has)
+            one_value c (slot_relation at x) 0 value.value (subst (λ k. ShowsValue m k (slot_relation at x) 0 value.value) same value.is_shown)
+            (ap (λ k. has_kind p.scope.ints s.objects k value.value) (sym same) ∙ value.has)
 
         go : (x : ℕ) (q : Option ParamDef) → slice_get d.params x ≡ q → option_map_or (argument_fits at m x) q true ≡ true
         go x None there = refl

@@ -154,7 +154,8 @@ module _ (p : Posed) (m : Reading) (at : Indices) (well : IsWell p.unit) (range 
   field_is o f c g below there class =
       let all : fields_fit p at m o ≡ true = all_numbers (fields_fit p at m) p.scope.objects o fields below in
       let one = all_numbers (λ f. option_map_or (field_fits at m o f) (slice_get p.unit.fields f) true) (length p.unit.fields) f all (slice_get_within p.unit.fields f g there) in
-      sym (ap (λ x. option_map_or (field_fits at m o f) x true) there ∙ ap (λ k. on_class k (λ c. if is_of_shown m at g.class o then is_one_value m at c (m.refs (field_relation at f) o) else is_nothing m (m.refs (field_relation at f) o))) class) ∙ one
+      sym (ap (λ x. option_map_or (field_fits at m o f) x true) there
+      ∙ ap (λ k. on_class k (λ c. if is_of_shown m at g.class o then is_one_value m at c (m.refs (field_relation at f) o) else is_nothing m (m.refs (field_relation at f) o))) class) ∙ one
 
   -- at an object of its class a field has one value, and nothing at any other
   field_one : (o f : ℕ) (g : FieldDef) → slice_get p.unit.fields f ≡ Some g → is_of_shown m at g.class o ≡ true → IsOneIf m at g.kind (field_relation at f) o

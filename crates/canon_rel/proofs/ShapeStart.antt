@@ -41,7 +41,8 @@ beside_from fits (x ∷ xs) [] long each = absurd (omega (arith, long))
 beside_from fits (x ∷ xs) (y ∷ ys) long each =
     and_from (fits x y) (pointwise fits xs ys) (each 0 x y refl refl) (beside_from fits xs ys (omega (arith, long)) (λ i z w here there. each (suc i) z w here there))
 
-module _ (p : Posed) (m : Reading) (at : Indices) (well : IsWell p.unit) (range : InRange p) (kinds : Kinds) (gives : GivesStart p kinds) (of : IsOf p kinds m) (d : MethodDef) (called : method_of p ≡ Some d)
+module _ (p : Posed) (m : Reading) (at : Indices) (well : IsWell p.unit) (range : InRange p) (kinds : Kinds) (gives : GivesStart p kinds) (of : IsOf p kinds m) (d : MethodDef)
+    (called : method_of p ≡ Some d)
     (nexts : list_all (is_next at m) (numbers_below p.scope.objects) ≡ true) (fields : list_all (fields_fit p at m) (numbers_below p.scope.objects) ≡ true) (roots : roots_fit at m d ≡ true) where
   abbrev heap : Heap
   heap = heap_shown p.unit m at
@@ -91,7 +92,8 @@ module _ (p : Posed) (m : Reading) (at : Indices) (well : IsWell p.unit) (range 
 
   receiver_one : d.fixed ≡ false → IsOneObject m at d.class (m.refs (slot_relation at (length d.params)) 0)
   receiver_one instance =
-      let fit : receiver_fits at m d ≡ true = (and_parts (receiver_fits at m d) (list_all (λ x. option_map_or (argument_fits at m x) (slice_get d.params x) true) (range_with_len 0 (length d.params))) roots).0 in
+      let fit : receiver_fits at m d ≡ true =
+      (and_parts (receiver_fits at m d) (list_all (λ x. option_map_or (argument_fits at m x) (slice_get d.params x) true) (range_with_len 0 (length d.params))) roots).0 in
       object_told m at d.class (m.refs (slot_relation at (length d.params)) 0) (refs_references p m at well range kinds of (slot_relation at (length d.params)) 0)
       (sym (ap (λ b. b || is_one_object m at d.class (m.refs (slot_relation at (length d.params)) 0)) instance) ∙ fit)
 
@@ -111,12 +113,14 @@ module _ (p : Posed) (m : Reading) (at : Indices) (well : IsWell p.unit) (range 
       go true fixed = refl
       go false fixed =
           let one = receiver_one fixed in
-          let same : variable_shown m at (kind.Ref d.class) (length d.params) ≡ Obj one.object = only_first (m.refs (slot_relation at (length d.params)) 0) m.objects (Obj one.object) (lt-ltb one.object m.objects one.inside) one.told in
+          let same : variable_shown m at (kind.Ref d.class) (length d.params) ≡ Obj one.object =
+          only_first (m.refs (slot_relation at (length d.params)) 0) m.objects (Obj one.object) (lt-ltb one.object m.objects one.inside) one.told in
           ap (is_receiver heap d.class false) same ∙ of_class_shown p m at well range kinds of nexts fields d.class one.object ∙ one.of
 
   -- ## the start
 
-  variable_is : (x : ℕ) (k : Kind) → slice_get (param_kinds d ++ receiver_kinds d) x ≡ Some k → ShowsValue m k (slot_relation at x) 0 (get_or (arguments_shown m at d ++ receiver_shown m at d ∷ []) x Null)
+  variable_is : (x : ℕ) (k : Kind) → slice_get (param_kinds d ++ receiver_kinds d) x ≡ Some k
+      → ShowsValue m k (slot_relation at x) 0 (get_or (arguments_shown m at d ++ receiver_shown m at d ∷ []) x Null)
   variable_is x k there = elim (cases_lt x (length d.params)) [
     | inl within ↦
         let none : ParamDef = record { name = []; kind = kind.Int; nullable = true } in
@@ -124,9 +128,11 @@ module _ (p : Posed) (m : Reading) (at : Indices) (well : IsWell p.unit) (range 
         let param : slice_get d.params x ≡ Some q = slice_get-get_or d.params x none within in
         let same : q.kind ≡ k = same_Some q.kind k (sym (param_kind x q param) ∙ there) in
         let value : variable_shown m at q.kind x ≡ get_or (arguments_shown m at d ++ receiver_shown m at d ∷ []) x Null =
-        sym (get_or_append_left (arguments_shown m at d) (receiver_shown m at d ∷ []) Null x (omega (arith, within, as_many)) ∙ get_or_from_slice_get (arguments_shown m at d) x (variable_shown m at q.kind x) Null (argument_there x q param))
+        sym (get_or_append_left (arguments_shown m at d) (receiver_shown m at d ∷ []) Null x (omega (arith, within, as_many))
+        ∙ get_or_from_slice_get (arguments_shown m at d) x (variable_shown m at q.kind x) Null (argument_there x q param))
         in
-        subst (λ v. ShowsValue m k (slot_relation at x) 0 v) value (subst (λ k. ShowsValue m k (slot_relation at x) 0 (variable_shown m at q.kind x)) same (value_is_shown m at q.kind (slot_relation at x) 0 (param_one x q param)))
+        subst (λ v. ShowsValue m k (slot_relation at x) 0 v) value
+        (subst (λ k. ShowsValue m k (slot_relation at x) 0 (variable_shown m at q.kind x)) same (value_is_shown m at q.kind (slot_relation at x) 0 (param_one x q param)))
     | inr past ↦ behind d.fixed refl (x - length d.params) (omega (arith, past)) there
   ]
     where
@@ -138,9 +144,11 @@ module _ (p : Posed) (m : Reading) (at : Indices) (well : IsWell p.unit) (range 
       behind true fixed i place there =
           absurd (none-some k (sym (slice_get-append_right (param_kinds d) [] i ∙ refl) ∙ ap (slice_get (param_kinds d ++ [])) (omega (arith, place, kinds_too)) ∙ there))
       behind false fixed (suc i) place there =
-          absurd (none-some k (sym (slice_get-append_right (param_kinds d) (kind.Ref d.class ∷ []) (suc i)) ∙ ap (slice_get (param_kinds d ++ kind.Ref d.class ∷ [])) (omega (arith, place, kinds_too)) ∙ there))
+          absurd (none-some k (sym (slice_get-append_right (param_kinds d) (kind.Ref d.class ∷ []) (suc i))
+          ∙ ap (slice_get (param_kinds d ++ kind.Ref d.class ∷ [])) (omega (arith, place, kinds_too)) ∙ there))
       behind false fixed zero place there =
-          let here : kind.Ref d.class ≡ k = same_Some (kind.Ref d.class) k (sym (slice_get-append_right (param_kinds d) (kind.Ref d.class ∷ []) 0) ∙ ap (slice_get (param_kinds d ++ kind.Ref d.class ∷ [])) (omega (arith, place, kinds_too)) ∙ there) in
+          let here : kind.Ref d.class ≡ k = same_Some (kind.Ref d.class) k
+          (sym (slice_get-append_right (param_kinds d) (kind.Ref d.class ∷ []) 0) ∙ ap (slice_get (param_kinds d ++ kind.Ref d.class ∷ [])) (omega (arith, place, kinds_too)) ∙ there) in
           let last : x ≡ length d.params = omega (arith, place) in
           let value : variable_shown m at (kind.Ref d.class) (length d.params) ≡ get_or (arguments_shown m at d ++ receiver_shown m at d ∷ []) (length d.params) Null =
           sym (seam ∙ ap (λ b. if b then Null else variable_shown m at (kind.Ref d.class) (length d.params)) fixed)
@@ -172,7 +180,8 @@ module _ (p : Posed) (m : Reading) (at : Indices) (well : IsWell p.unit) (range 
     few_objects = few_objects p m at well range kinds of nexts fields;
     objects_whole = objects_whole p m at well range kinds of nexts fields;
     receiver = ap (λ x. option_map_or (λ (e : MethodDef). is_receiver heap e.class e.fixed (start_of p m at).this) x false) called ∙ ap (is_receiver heap d.class d.fixed) this_is ∙ receiver_is;
-    arguments = ap (λ x. option_map_or (λ (e : MethodDef). pointwise (is_argument p.scope.ints heap) e.params (start_of p m at).args) x false) called ∙ ap (pointwise (is_argument p.scope.ints heap) d.params) args_are ∙ arguments_are;
+    arguments = ap (λ x. option_map_or (λ (e : MethodDef). pointwise (is_argument p.scope.ints heap) e.params (start_of p m at).args) x false) called
+        ∙ ap (pointwise (is_argument p.scope.ints heap) d.params) args_are ∙ arguments_are;
   }
 
 -- a reading of the problem with the shape of a start
@@ -182,7 +191,8 @@ pub record TellsStart (p : Posed) (m : Reading) (at : Indices) : Type 0 where
 
 pub start_told : (p : Posed) (m : Reading) (at : Indices) → IsWell p.unit → InRange p → (kinds : Kinds) → GivesStart p kinds → IsOf p kinds m → has_shape p at m ≡ true → TellsStart p m at
 start_told p m at well range kinds gives of shape =
-    let outer = and_parts (list_all (is_next at m) (numbers_below p.scope.objects) && list_all (fields_fit p at m) (numbers_below p.scope.objects)) (option_map_or (roots_fit at m) (method_of p) false) shape in
+    let outer = and_parts (list_all (is_next at m) (numbers_below p.scope.objects) && list_all (fields_fit p at m) (numbers_below p.scope.objects))
+    (option_map_or (roots_fit at m) (method_of p) false) shape in
     let inner = and_parts (list_all (is_next at m) (numbers_below p.scope.objects)) (list_all (fields_fit p at m) (numbers_below p.scope.objects)) outer.0 in
     let method = method_there p m at well range kinds of in
     let roots : roots_fit at m method.0 ≡ true = sym (ap (λ d. option_map_or (roots_fit at m) d false) method.1) ∙ outer.1 in

@@ -21,6 +21,10 @@ comes_before m places a b = nat_lt (position_or_len (has_at m a) places) (positi
 abbrev pub follows : Reading → List Place → ℕ → Bool
 follows m places j = list_any (has_at m j) places && (j == 0 || comes_before m places (j - 1) j)
 
+-- so it does, if it is there
+abbrev pub follows_if_there : Indices → Reading → List Place → ℕ → Bool
+follows_if_there at m places j = not (m.flag (live_relation at) j) || follows m places j
+
 -- each object that is there follows the one before it
 abbrev pub is_in_order : Posed → Indices → Reading → Bool
-is_in_order p at m = list_all (λ j. not (m.flag (live_relation at) j) || follows m (places_below p at j) j) (numbers_below p.scope.objects)
+is_in_order p at m = list_all (λ j. follows_if_there at m (places_below p at j) j) (numbers_below p.scope.objects)

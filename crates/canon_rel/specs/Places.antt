@@ -1,6 +1,6 @@
 -- The places of a start that hold references: roots, and class-kind fields of objects. (This project's own.)
 use Rattle.std.specs.Prelude.{ℕ, zero, suc, nat_lt, Bool, true, ◌&&◌, List, [], ◌++◌, length, map, flat_map}
-use Rattle.std.specs.List.{range_with_len}
+use Rattle.std.specs.List.{list_all, range_with_len}
 use Rattle.std.specs.Option.{option_map_or}
 use Rattle.taco_unit.specs.declared.unit.MethodDef.{MethodDef}
 use Rattle.heap_core.specs.Posed.{Posed}
@@ -50,3 +50,14 @@ is_within objects (place.Field r o) = nat_lt o objects
 abbrev pub is_sorted_place : Posed → Kinds → Place → Bool
 is_sorted_place p kinds (place.Variable r) = is_variable p kinds AsSet r
 is_sorted_place p kinds (place.Field r o) = nat_lt o p.scope.objects && is_spread p kinds AsSet r
+
+-- so are all of these places
+abbrev pub are_within : ℕ → List Place → Bool
+are_within objects = list_all (is_within objects)
+
+abbrev pub are_sorted : Posed → Kinds → List Place → Bool
+are_sorted p kinds = list_all (is_sorted_place p kinds)
+
+-- the object can be named in the problem
+abbrev pub is_named : Posed → ℕ → Bool
+is_named p o = nat_lt o p.scope.objects

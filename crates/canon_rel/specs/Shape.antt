@@ -45,11 +45,13 @@ abbrev pub on_class : Kind → (ℕ → Bool) → Bool
 on_class (kind.Ref c) fits = fits c
 on_class _ fits = true
 
--- a class-kind field has one value at an object of its class that is there, and nothing at any other
+-- a set is one value at an object of the class that is there, and nothing at any other
+abbrev pub is_declared_value : Indices → Reading → ℕ → ℕ → ℕ → ValueSet → Bool
+is_declared_value at m owner o c s = if is_of_shown m at owner o then is_one_value m at c s else is_nothing m s
+
+-- the references of a class-kind field at an object are such a set
 abbrev pub field_fits : Indices → Reading → ℕ → ℕ → FieldDef → Bool
-field_fits at m o f d =
-    let refs : ValueSet = m.refs (field_relation at f) o in
-    on_class d.kind (λ c. if is_of_shown m at d.class o then is_one_value m at c refs else is_nothing m refs)
+field_fits at m o f d = on_class d.kind (λ c. is_declared_value at m d.class o c (m.refs (field_relation at f) o))
 
 -- all class-kind fields at an object
 abbrev pub fields_fit : Posed → Indices → Reading → ℕ → Bool
@@ -64,9 +66,11 @@ argument_fits at m x q = on_class q.kind (λ c. is_one_value m at c (m.refs (slo
 abbrev pub receiver_fits : Indices → Reading → MethodDef → Bool
 receiver_fits at m d = d.fixed || is_one_object m at d.class (m.refs (slot_relation at (length d.params)) 0)
 
+abbrev pub arguments_fit : Indices → Reading → MethodDef → Bool
+arguments_fit at m d = list_all (λ x. option_map_or (argument_fits at m x) (slice_get d.params x) true) (range_with_len 0 (length d.params))
+
 abbrev pub roots_fit : Indices → Reading → MethodDef → Bool
-roots_fit at m d =
-    receiver_fits at m d && list_all (λ x. option_map_or (argument_fits at m x) (slice_get d.params x) true) (range_with_len 0 (length d.params))
+roots_fit at m d = receiver_fits at m d && arguments_fit at m d
 
 -- the reading has the shape of a start
 abbrev pub has_shape : Posed → Indices → Reading → Bool

@@ -7,8 +7,8 @@ ghost use Rattle.rel_core.specs.Reading.{Reading};
 ghost use Rattle.rel_core.specs.Meaning.{holds};
 ghost use Rattle.rel_core.specs.Uses.{Kinds, GivesStart, is_sorted};
 ghost use Rattle.rel_core.specs.Shown.{live_relation};
-ghost use Rattle.canon_rel.specs.Places.{is_within, is_sorted_place};
-ghost use Rattle.canon_rel.specs.Order.{has_at, comes_before as comes_before_lem, follows as follows_lem, is_in_order as is_in_order_lem};
+ghost use Rattle.canon_rel.specs.Places.{are_within, are_sorted, is_named};
+ghost use Rattle.canon_rel.specs.Order.{has_at, comes_before as comes_before_lem, follows as follows_lem, follows_if_there, is_in_order as is_in_order_lem};
 
 use crate::objects::is_live;
 use crate::places::Place;
@@ -22,8 +22,8 @@ use std::alloc::Global;
 
 /// The object is at some of the places.
 fn is_held(alloc: Global, places: &[Place], object: u8) -> Result<Boxed<Formula>, NoMemory>
-    ensures meaning { IfOk result (λ f. (m : Reading) → IsTrue (list_all (is_within m.objects) places.now) → object < m.objects → holds f m ≡ list_any (has_at m object) places.now) }
-    ensures sorted { IfOk result (λ f. (p : Posed) (kinds : Kinds) → IsTrue (list_all (is_sorted_place p kinds) places.now) → IsTrue (nat_lt object p.scope.objects) → IsTrue (is_sorted p kinds f)) }
+    ensures meaning { IfOk result (λ f. (m : Reading) → IsTrue (are_within m.objects places.now) → object < m.objects → holds f m ≡ list_any (has_at m object) places.now) }
+    ensures sorted { IfOk result (λ f. (p : Posed) (kinds : Kinds) → IsTrue (are_sorted p kinds places.now) → IsTrue (is_named p object) → IsTrue (is_sorted p kinds f)) }
 {
     let mut parts = Items::new(alloc);
     for place in places {
@@ -42,8 +42,8 @@ fn comes_before(
     first: u8,
     second: u8,
 ) -> Result<Boxed<Formula>, NoMemory>
-    ensures meaning { IfOk result (λ f. (m : Reading) → IsTrue (list_all (is_within m.objects) places.now) → first < m.objects → second < m.objects → holds f m ≡ comes_before_lem m places.now first second) }
-    ensures sorted { IfOk result (λ f. (p : Posed) (kinds : Kinds) → IsTrue (list_all (is_sorted_place p kinds) places.now) → IsTrue (nat_lt first p.scope.objects) → IsTrue (nat_lt second p.scope.objects) → IsTrue (is_sorted p kinds f)) }
+    ensures meaning { IfOk result (λ f. (m : Reading) → IsTrue (are_within m.objects places.now) → first < m.objects → second < m.objects → holds f m ≡ comes_before_lem m places.now first second) }
+    ensures sorted { IfOk result (λ f. (p : Posed) (kinds : Kinds) → IsTrue (are_sorted p kinds places.now) → IsTrue (is_named p first) → IsTrue (is_named p second) → IsTrue (is_sorted p kinds f)) }
 {
     match places {
         [] => {
@@ -64,8 +64,8 @@ fn comes_before(
 
 /// The object is at some of the places, and the object before it, where there is one, comes first there.
 fn follows(alloc: Global, places: &[Place], object: u8) -> Result<Boxed<Formula>, NoMemory>
-    ensures meaning { IfOk result (λ f. (m : Reading) → IsTrue (list_all (is_within m.objects) places.now) → object < m.objects → holds f m ≡ follows_lem m places.now object) }
-    ensures sorted { IfOk result (λ f. (p : Posed) (kinds : Kinds) → IsTrue (list_all (is_sorted_place p kinds) places.now) → IsTrue (nat_lt object p.scope.objects) → IsTrue (is_sorted p kinds f)) }
+    ensures meaning { IfOk result (λ f. (m : Reading) → IsTrue (are_within m.objects places.now) → object < m.objects → holds f m ≡ follows_lem m places.now object) }
+    ensures sorted { IfOk result (λ f. (p : Posed) (kinds : Kinds) → IsTrue (are_sorted p kinds places.now) → IsTrue (is_named p object) → IsTrue (is_sorted p kinds f)) }
 {
     if object == 0 {
         let held = is_held(alloc, places, object)?;
@@ -84,8 +84,8 @@ fn follows_where_live(
     places: &[Place],
     object: u8,
 ) -> Result<Boxed<Formula>, NoMemory>
-    ensures meaning { IfOk result (λ f. (m : Reading) → IsTrue (list_all (is_within m.objects) places.now) → object < m.objects → holds f m ≡ (not (m.flag (live_relation at.now) object) || follows_lem m places.now object)) }
-    ensures sorted { IfOk result (λ f. (p : Posed) (kinds : Kinds) → IsTrue (list_all (is_sorted_place p kinds) places.now) → IsTrue (nat_lt object p.scope.objects) → IsTrue (is_sorted p kinds f)) }
+    ensures meaning { IfOk result (λ f. (m : Reading) → IsTrue (are_within m.objects places.now) → object < m.objects → holds f m ≡ follows_if_there at.now m places.now object) }
+    ensures sorted { IfOk result (λ f. (p : Posed) (kinds : Kinds) → IsTrue (are_sorted p kinds places.now) → IsTrue (is_named p object) → IsTrue (is_sorted p kinds f)) }
 {
     let live = is_live(alloc, at, object)?;
     let follows = follows(alloc, places, object)?;

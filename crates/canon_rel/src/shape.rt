@@ -8,7 +8,8 @@ ghost use Rattle.heap_core.specs.Start.{method_of};
 ghost use Rattle.rel_core.specs.Reading.{Reading, numbers_below};
 ghost use Rattle.rel_core.specs.Meaning.{holds};
 ghost use Rattle.rel_core.specs.Uses.{Kinds, GivesStart, is_sorted};
-ghost use Rattle.canon_rel.specs.Shape.{is_next as is_next_lem, field_fits as field_fits_lem, fields_fit as fields_fit_lem, argument_fits as argument_fits_lem, receiver_fits as receiver_fits_lem, roots_fit as roots_fit_lem, has_shape as has_shape_lem};
+ghost use Rattle.canon_rel.specs.Shape.{is_next as is_next_lem, field_fits as field_fits_lem, fields_fit as fields_fit_lem, has_shape as has_shape_lem};
+ghost use Rattle.canon_rel.specs.Shape.{argument_fits as argument_fits_lem, arguments_fit as arguments_fit_lem, receiver_fits as receiver_fits_lem, roots_fit as roots_fit_lem};
 
 use crate::objects::is_next;
 use crate::places::Place;
@@ -149,7 +150,7 @@ fn arguments_fit(
     method: &MethodDef,
 ) -> Result<Boxed<Formula>, NoMemory>
     requires { length method.now.params ≤ 8 }
-    ensures meaning { IfOk result (λ f. (m : Reading) → holds f m ≡ list_all (λ x. option_map_or (argument_fits_lem at.now m x) (slice_get method.now.params x) true) (range_with_len 0 (length method.now.params))) }
+    ensures meaning { IfOk result (λ f. (m : Reading) → holds f m ≡ arguments_fit_lem at.now m method.now) }
     ensures sorted { IfOk result (λ f. (p : Posed) (kinds : Kinds) → method_of p ≡ Some method.now → GivesStart p kinds → IsTrue (is_sorted p kinds f)) }
 {
     let count = method.params.len();

@@ -6,9 +6,9 @@ ghost use Rattle.rel_core.specs.Reading.{Reading};
 ghost use Rattle.heap_core.specs.Outcomes.{is_null};
 ghost use Rattle.rel_core.specs.Meaning.{holds, is_subset};
 ghost use Rattle.rel_core.specs.Uses.{Kinds, is_sorted};
-ghost use Rattle.rel_core.specs.Laws.{is_of_shown};
 ghost use Rattle.canon_rel.specs.Places.{refs_at, is_within, is_sorted_place};
-ghost use Rattle.canon_rel.specs.Shape.{is_null_alone as is_null_alone_lem, is_one_object as is_one_object_lem, is_one_value as is_one_value_lem, is_nothing as is_nothing_lem};
+ghost use Rattle.canon_rel.specs.Shape.{is_null_alone as is_null_alone_lem, is_one_object as is_one_object_lem, is_one_value as is_one_value_lem};
+ghost use Rattle.canon_rel.specs.Shape.{is_nothing as is_nothing_lem, is_declared_value as is_declared_value_lem};
 
 use crate::objects::is_of;
 use crate::places::Place;
@@ -109,7 +109,7 @@ pub(crate) fn is_declared_value(
     place: Place,
     class: u8,
 ) -> Result<Boxed<Formula>, NoMemory>
-    ensures meaning { IfOk result (λ f. (m : Reading) → object < m.objects → IsTrue (is_within m.objects place) → holds f m ≡ (if is_of_shown m at.now owner object then is_one_value_lem m at.now class (refs_at m place) else is_nothing_lem m (refs_at m place))) }
+    ensures meaning { IfOk result (λ f. (m : Reading) → object < m.objects → IsTrue (is_within m.objects place) → holds f m ≡ is_declared_value_lem at.now m owner object class (refs_at m place)) }
     ensures sorted { IfOk result (λ f. (p : Posed) (kinds : Kinds) → IsTrue (nat_lt object p.scope.objects) → IsTrue (is_sorted_place p kinds place) → IsTrue (is_sorted p kinds f)) }
 {
     let own = is_of(alloc, at, object, owner)?;

@@ -26,12 +26,14 @@ loop-object-preserved c =
           more_parts o c.loop-object.parts c.push.new.self c.in_ok-part.part c.loop-object.invariant.parts_are
           (c.in_ok-push.ensures.ok ∙ ap (λ f. c.loop-object.parts ++ f ∷ []) c.into_inner.ensures)
           (λ m same.
-          c.in_ok-part.ensures.meaning m (ap (list_all (is_within m.objects)) (c.as_slice.ensures ∙ are) ∙ places_within p at o m.objects (omega (arith, c.loop-object-test.true, few, same))) (omega (arith, c.loop-object-test.true, few, same))
+          c.in_ok-part.ensures.meaning m (ap (list_all (is_within m.objects)) (c.as_slice.ensures ∙ are) ∙ places_within p at o m.objects (omega (arith, c.loop-object-test.true, few, same)))
+          (omega (arith, c.loop-object-test.true, few, same))
           ∙ ap (λ ps. not (m.flag (live_relation at) o) || follows m ps o) (c.as_slice.ensures ∙ are))
           (λ q kinds so.
           let inside : o < q.scope.objects = omega (arith, c.loop-object-test.true, few, ap (λ (p : Posed). p.scope.objects) so.0) in
           c.in_ok-part.ensures.sorted q kinds
-          (ap (list_all (is_sorted_place q kinds)) (c.as_slice.ensures ∙ are ∙ ap (λ p. places_below p at o) (sym so.0)) ∙ places_sorted q kinds at o (subst (λ p. GivesStart p kinds) (sym so.0) so.1) (omega (arith, inside))) (lt-ltb o q.scope.objects inside));
+          (ap (list_all (is_sorted_place q kinds)) (c.as_slice.ensures ∙ are ∙ ap (λ p. places_below p at o) (sym so.0))
+          ∙ places_sorted q kinds at o (subst (λ p. GivesStart p kinds) (sym so.0) so.1) (omega (arith, inside))) (lt-ltb o q.scope.objects inside));
     }
 
 pub returns-clause-meaning : goal.returns-clause-meaning
@@ -39,7 +41,8 @@ returns-clause-meaning c = λ m same.
     let p = c.args.problem.now in
     let at = c.args.at.now in
     c.in_ok-all.ensures.meaning m ∙ c.loop-object.invariant.parts_are.meaning m same
-    ∙ ap (λ n. list_all (λ j. not (m.flag (live_relation at) j) || follows m (places_below p at j) j) (range_with_len 0 n)) (omega (arith, c.loop-object-test.false, c.loop-object.auto.object-end, c.object_count-count.ensures))
+    ∙ ap (λ n. list_all (λ j. not (m.flag (live_relation at) j) || follows m (places_below p at j) j) (range_with_len 0 n))
+    (omega (arith, c.loop-object-test.false, c.loop-object.auto.object-end, c.object_count-count.ensures))
 
 pub returns-clause-sorted : goal.returns-clause-sorted
 returns-clause-sorted c = λ kinds gives. c.in_ok-all.ensures.sorted c.args.problem.now kinds (c.loop-object.invariant.parts_are.sorted c.args.problem.now kinds (refl, gives))

@@ -27,4 +27,5 @@ returns c =
     let o = c.args.object in
     let u = c.args.problem.now.unit in
     c.loop-field.invariant
-    ∙ ap (λ n. c.args.places.now ++ map (λ f. place.Field (field_relation at f) o) (filter (is_link u) (range_with_len 0 n))) (omega (arith, c.loop-field-test.false, c.loop-field.auto.field-end, c.field_count-count.ensures.value))
+    ∙ ap (λ n. c.args.places.now ++ map (λ f. place.Field (field_relation at f) o) (filter (is_link u) (range_with_len 0 n)))
+    (omega (arith, c.loop-field-test.false, c.loop-field.auto.field-end, c.field_count-count.ensures.value))

@@ -14,6 +14,7 @@ returns-in_ok-fits-in-Ref-clause-sorted c = λ p kinds known.
 
 pub returns-in_ok-always-in_default : goal.returns-in_ok-always-in_default
 returns-in_ok-always-in_default c = record {
-  meaning = λ m. c.in_ok-always-in_default.ensures.meaning m ∙ sym (unspoken c.args.param.now.kind (λ k. is_one_value m c.args.at.now k (m.refs (slot_relation c.args.at.now c.args.variable) 0)) c.in_default.not-Ref);
+  meaning = λ m. c.in_ok-always-in_default.ensures.meaning m
+      ∙ sym (unspoken c.args.param.now.kind (λ k. is_one_value m c.args.at.now k (m.refs (slot_relation c.args.at.now c.args.variable) 0)) c.in_default.not-Ref);
   sorted = λ p kinds known. c.in_ok-always-in_default.ensures.sorted p kinds;
 }

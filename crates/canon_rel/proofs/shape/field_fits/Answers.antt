@@ -21,7 +21,8 @@ returns-in_ok-always-in_default c = record {
   meaning = λ m inside.
       c.in_ok-always-in_default.ensures.meaning m
       ∙ sym (unspoken c.args.def.now.kind
-      (λ k. if is_of_shown m c.args.at.now c.args.def.now.class c.args.object then is_one_value m c.args.at.now k (m.refs (field_relation c.args.at.now c.args.field) c.args.object) else is_nothing m (m.refs (field_relation c.args.at.now c.args.field) c.args.object))
+      (λ k. if is_of_shown m c.args.at.now c.args.def.now.class c.args.object then is_one_value m c.args.at.now k
+      (m.refs (field_relation c.args.at.now c.args.field) c.args.object) else is_nothing m (m.refs (field_relation c.args.at.now c.args.field) c.args.object))
       c.in_default.not-Ref);
   sorted = λ p kinds inside there. c.in_ok-always-in_default.ensures.sorted p kinds;
 }

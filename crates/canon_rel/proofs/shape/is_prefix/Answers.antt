@@ -14,7 +14,8 @@ loop-object-preserved c =
     more_parts c.loop-object.object c.loop-object.parts c.push.new.self c.in_ok-part.part c.loop-object.invariant
     (c.in_ok-push.ensures.ok ∙ ap (λ f. c.loop-object.parts ++ f ∷ []) c.into_inner.ensures)
     (λ m same. c.in_ok-part.ensures.meaning m (omega (arith, c.loop-object-test.true, c.object_count-count.ensures, same)))
-    (λ p kinds same. c.in_ok-part.ensures.sorted p kinds (lt-ltb c.loop-object.object p.scope.objects (omega (arith, c.loop-object-test.true, c.object_count-count.ensures, ap (λ (p : Posed). p.scope.objects) same))))
+    (λ p kinds same. c.in_ok-part.ensures.sorted p kinds
+    (lt-ltb c.loop-object.object p.scope.objects (omega (arith, c.loop-object-test.true, c.object_count-count.ensures, ap (λ (p : Posed). p.scope.objects) same))))
 
 pub returns-clause-meaning : goal.returns-clause-meaning
 returns-clause-meaning c = λ m same.

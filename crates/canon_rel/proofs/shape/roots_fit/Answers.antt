@@ -13,4 +13,5 @@ returns-clause-meaning c = λ m.
 pub returns-clause-sorted : goal.returns-clause-sorted
 returns-clause-sorted c = λ kinds gives.
     let p = c.args.problem.now in
-    c.in_ok-both.ensures.sorted p kinds (c.in_ok-receiver.ensures.sorted p kinds c.method_in-method.ensures.there gives) (c.in_ok-arguments.ensures.sorted p kinds c.method_in-method.ensures.there gives)
+    c.in_ok-both.ensures.sorted p kinds (c.in_ok-receiver.ensures.sorted p kinds c.method_in-method.ensures.there gives)
+    (c.in_ok-arguments.ensures.sorted p kinds c.method_in-method.ensures.there gives)
