@@ -9,6 +9,8 @@ mod places;
 mod places_below;
 mod problems;
 mod shape;
+#[cfg(test)]
+mod tests;
 mod values;
 
 pub use formula::canon_formula;
