@@ -140,43 +140,108 @@ fn is_canonical_start(
     Ok(formula.get().holds(&valuation, small_scope()))
 }
 
-#[test]
-fn lone_objects_are_canonical(rt: HostRuntime) -> Result<(), Fail> {
-    let alloc = rt.alloc();
+/// The first object, and the second, is there.
+const FIRST: (RelVar, u8, Value) = (LIVE, 0, Value::Flag(true));
+
+const SECOND: (RelVar, u8, Value) = (LIVE, 1, Value::Flag(true));
+
+/// Valuations. What stands in a row twice is said once.
+static ROWS: [[(RelVar, u8, Value); 5]; 12] = [
+    // one object, whose field is null, or itself
+    [
+        FIRST,
+        FIRST,
+        FIRST,
+        (THIS, 0, Value::Obj(0)),
+        (NEXT, 0, Value::Null),
+    ],
+    [
+        FIRST,
+        FIRST,
+        FIRST,
+        (THIS, 0, Value::Obj(0)),
+        (NEXT, 0, Value::Obj(0)),
+    ],
+    // an object that is not there, no value, two values
+    [
+        FIRST,
+        FIRST,
+        FIRST,
+        (THIS, 0, Value::Obj(0)),
+        (NEXT, 0, Value::Obj(1)),
+    ],
+    [FIRST, FIRST, FIRST, FIRST, (THIS, 0, Value::Obj(0))],
+    [
+        FIRST,
+        FIRST,
+        (THIS, 0, Value::Obj(0)),
+        (NEXT, 0, Value::Null),
+        (NEXT, 0, Value::Obj(0)),
+    ],
+    // no receiver, or null
+    [FIRST, FIRST, FIRST, FIRST, (NEXT, 0, Value::Null)],
+    [
+        FIRST,
+        FIRST,
+        FIRST,
+        (THIS, 0, Value::Null),
+        (NEXT, 0, Value::Null),
+    ],
+    // a value at an object that is not there
+    [
+        FIRST,
+        FIRST,
+        (THIS, 0, Value::Obj(0)),
+        (NEXT, 0, Value::Null),
+        (NEXT, 1, Value::Null),
+    ],
+    // two objects, and the same with their numbers exchanged
+    [
+        FIRST,
+        SECOND,
+        (THIS, 0, Value::Obj(0)),
+        (NEXT, 0, Value::Obj(1)),
+        (NEXT, 1, Value::Null),
+    ],
+    [
+        FIRST,
+        SECOND,
+        (THIS, 0, Value::Obj(1)),
+        (NEXT, 1, Value::Obj(0)),
+        (NEXT, 0, Value::Null),
+    ],
+    // the second is not reached; the first is not there
+    [
+        FIRST,
+        SECOND,
+        (THIS, 0, Value::Obj(0)),
+        (NEXT, 0, Value::Null),
+        (NEXT, 1, Value::Obj(0)),
+    ],
+    [
+        SECOND,
+        SECOND,
+        SECOND,
+        (THIS, 0, Value::Obj(1)),
+        (NEXT, 1, Value::Null),
+    ],
+];
+
+/// The rows of which the formula holds.
+fn rows_that_hold(alloc: Global) -> Result<Items<u8>, NoMemory> {
     let problem = small_problem(alloc)?;
-    let live = (LIVE, 0, Value::Flag(true));
-    let this = (THIS, 0, Value::Obj(0));
-    let end = (NEXT, 0, Value::Null);
-    assert!(rt; is_canonical_start(alloc, &problem, &[live, this, end])?);
-    let loops = (NEXT, 0, Value::Obj(0));
-    assert!(rt; is_canonical_start(alloc, &problem, &[live, this, loops])?);
-    let leaves = (NEXT, 0, Value::Obj(1));
-    assert!(rt; !is_canonical_start(alloc, &problem, &[live, this, leaves])?);
-    assert!(rt; !is_canonical_start(alloc, &problem, &[live, this])?);
-    assert!(rt; !is_canonical_start(alloc, &problem, &[live, this, end, loops])?);
-    assert!(rt; !is_canonical_start(alloc, &problem, &[live, end])?);
-    let none = (THIS, 0, Value::Null);
-    assert!(rt; !is_canonical_start(alloc, &problem, &[live, none, end])?);
-    let missing = (NEXT, 1, Value::Null);
-    assert!(rt; !is_canonical_start(alloc, &problem, &[live, this, end, missing])?);
-    Ok(())
+    let mut rows = Items::new(alloc);
+    for row in 0..12u8 {
+        if is_canonical_start(alloc, &problem, &ROWS[usize::from(row)])? {
+            rows.push(row)?;
+        }
+    }
+    Ok(rows)
 }
 
 #[test]
-fn of_two_numberings_one_is_canonical(rt: HostRuntime) -> Result<(), Fail> {
-    let alloc = rt.alloc();
-    let problem = small_problem(alloc)?;
-    let first = (LIVE, 0, Value::Flag(true));
-    let second = (LIVE, 1, Value::Flag(true));
-    let this = (THIS, 0, Value::Obj(0));
-    let on = (NEXT, 0, Value::Obj(1));
-    let end = (NEXT, 1, Value::Null);
-    assert!(rt; is_canonical_start(alloc, &problem, &[first, second, this, on, end])?);
-    let other = (THIS, 0, Value::Obj(1));
-    let back = (NEXT, 1, Value::Obj(0));
-    let last = (NEXT, 0, Value::Null);
-    assert!(rt; !is_canonical_start(alloc, &problem, &[first, second, other, back, last])?);
-    assert!(rt; !is_canonical_start(alloc, &problem, &[first, second, this, last, back])?);
-    assert!(rt; !is_canonical_start(alloc, &problem, &[second, other, end])?);
+fn canonical_starts_alone_are_shown(rt: HostRuntime) -> Result<(), Fail> {
+    let rows = rows_that_hold(rt.alloc())?;
+    assert_eq!(rt; rows.as_slice(), [0, 1, 8].as_slice());
     Ok(())
 }
