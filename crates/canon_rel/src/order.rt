@@ -1,12 +1,11 @@
 //! Objects in order: each is at one of the places below it, and the object before it comes first there.
 
-ghost use Rattle.std.specs.Prelude.{◌≡◌, ◌<◌, ◌≤◌, nat_lt, ◌||◌, not, IfOk, IsTrue, length};
-ghost use Rattle.std.specs.List.{list_all, list_any};
+ghost use Rattle.std.specs.Prelude.{◌≡◌, ◌<◌, not, IfOk, IsTrue};
+ghost use Rattle.std.specs.List.{list_any};
 ghost use Rattle.heap_core.specs.Posed.{Posed};
 ghost use Rattle.rel_core.specs.Reading.{Reading};
 ghost use Rattle.rel_core.specs.Meaning.{holds};
 ghost use Rattle.rel_core.specs.Uses.{Kinds, GivesStart, is_sorted};
-ghost use Rattle.rel_core.specs.Shown.{live_relation};
 ghost use Rattle.canon_rel.specs.Places.{are_within, are_sorted, is_named};
 ghost use Rattle.canon_rel.specs.Order.{has_at, comes_before as comes_before_lem, follows as follows_lem, follows_if_there, is_in_order as is_in_order_lem};
 

@@ -1,7 +1,7 @@
 //! The shape of a start: which objects are there, and one value at each root and each class-kind field.
 
 ghost use Rattle.std.specs.Prelude.{◌≡◌, ◌<◌, ◌≤◌, nat_lt, slice_get, Some, true, false, IfOk, IsTrue, length};
-ghost use Rattle.std.specs.List.{list_all, range_with_len};
+ghost use Rattle.std.specs.List.{list_all};
 ghost use Rattle.std.specs.Option.{option_map_or};
 ghost use Rattle.heap_core.specs.Posed.{Posed};
 ghost use Rattle.heap_core.specs.Start.{method_of};

@@ -1,6 +1,6 @@
 //! What formulas say of the references at one place: null alone, one object, or nothing.
 
-ghost use Rattle.std.specs.Prelude.{◌≡◌, ◌<◌, nat_lt, if◌then◌else◌, IfOk, IsTrue};
+ghost use Rattle.std.specs.Prelude.{◌≡◌, ◌<◌, nat_lt, IfOk, IsTrue};
 ghost use Rattle.heap_core.specs.Posed.{Posed};
 ghost use Rattle.rel_core.specs.Reading.{Reading};
 ghost use Rattle.heap_core.specs.Outcomes.{is_null};

@@ -1,4 +1,4 @@
-use Rattle.std.proofs.Common.{◌≡◌, ℕ, [], ◌∷◌, Some, None, false, true, refl, sym, arith, subst}
+use Rattle.std.proofs.Common.{◌≡◌, [], ◌∷◌, None, false, true, refl, sym, arith, subst}
 use Rattle.taco_unit.specs.declared.kind.Kind.TheVariants.{Ref}
 use Rattle.taco_unit.specs.declared.unit.ClassDef.{ClassDef}
 use Rattle.taco_unit.specs.declared.unit.FieldDef.{FieldDef}
