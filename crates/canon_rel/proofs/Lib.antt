@@ -1,0 +1,14 @@
+pub mod FirstOf
+pub mod ByLinks
+pub mod SameObjects
+pub mod PlacesShown
+pub mod OneValue
+pub mod ReadingOf
+pub mod ShapeHeap
+pub mod ShapeStart
+pub mod ShapeBack
+pub mod Pieces
+pub mod Gathered
+pub mod KindsKnown
+pub mod Says
+pub mod Along

@@ -1,0 +1,5 @@
+use Rattle.canon_rel.proofs.values.is_nothing.Goals as goal
+
+pub returns-clause-sorted : goal.returns-clause-sorted
+returns-clause-sorted c = λ p kinds sorted.
+    c.in_ok-nothing.ensures.sorted p kinds (c.in_ok-no_object.ensures.sorted p kinds sorted) (c.in_ok-no_null.ensures.sorted p kinds (c.in_ok-null.ensures.sorted p kinds sorted))
