@@ -1,0 +1,4 @@
+pub mod Fresh
+pub mod Digits
+pub mod Wanted
+pub mod Growing

@@ -1,0 +1,7 @@
+//! Circuits of formulas within an upper bound: the gate of a formula, with an input of its own for each tuple
+//! that a table still has.
+#![tactic(auto)]
+
+mod inputs;
+mod named;
+mod naming;
