@@ -90,17 +90,17 @@ flag_same : (p : Posed) (kinds : Kinds) (truth other : ℕ → Bool) (gates : Li
 flag_same p kinds truth other gates r o same = ap (λ b. has_place p kinds AsFlag r o && b) (same (o * 1 + 0))
 
 -- a reading agrees at a relation with gates
-abbrev AgreesWith : Posed → Kinds → (ℕ → Bool) → Option (List ℕ) → Reading → RelVar → Type 0
+abbrev pub AgreesWith : Posed → Kinds → (ℕ → Bool) → Option (List ℕ) → Reading → RelVar → Type 0
 AgreesWith p kinds truth found m r =
     ((o : ℕ) (v : Value) → m.refs r o v ≡ refs_shown p kinds truth found r o v) × ((o : ℕ) → m.number r o ≡ number_shown p kinds truth found r o) × ((o : ℕ) → m.flag r o ≡ flag_shown p kinds truth found r o)
 
-agree_from : (p : Posed) (kinds : Kinds) (truth : ℕ → Bool) (es : Named) (m : Reading) (r : RelVar) → AgreesWith p kinds truth (gates_of es r) m r → AgreeAt m (reading_shown p kinds truth es) r
+pub agree_from : (p : Posed) (kinds : Kinds) (truth : ℕ → Bool) (es : Named) (m : Reading) (r : RelVar) → AgreesWith p kinds truth (gates_of es r) m r → AgreeAt m (reading_shown p kinds truth es) r
 agree_from p kinds truth es m r with_gates = record { refs = with_gates.0; number = with_gates.1; flag = with_gates.2 }
 
-agree_to : (p : Posed) (kinds : Kinds) (truth : ℕ → Bool) (es : Named) (m : Reading) (r : RelVar) → AgreeAt m (reading_shown p kinds truth es) r → AgreesWith p kinds truth (gates_of es r) m r
+pub agree_to : (p : Posed) (kinds : Kinds) (truth : ℕ → Bool) (es : Named) (m : Reading) (r : RelVar) → AgreeAt m (reading_shown p kinds truth es) r → AgreesWith p kinds truth (gates_of es r) m r
 agree_to p kinds truth es m r agree = (agree.refs, agree.number, agree.flag)
 
-agree_kept : (p : Posed) (kinds : Kinds) (truth other : ℕ → Bool) (gates : List ℕ) (m : Reading) (r : RelVar) → SameTruth other truth gates → AgreesWith p kinds truth (Some gates) m r → AgreesWith p kinds other (Some gates) m r
+pub agree_kept : (p : Posed) (kinds : Kinds) (truth other : ℕ → Bool) (gates : List ℕ) (m : Reading) (r : RelVar) → SameTruth other truth gates → AgreesWith p kinds truth (Some gates) m r → AgreesWith p kinds other (Some gates) m r
 agree_kept p kinds truth other gates m r same agree =
     (λ o v. agree.0 o v ∙ sym (refs_same p kinds other truth gates r o v same), λ o. agree.1 o ∙ sym (number_same p kinds other truth gates r o same), λ o. agree.2 o ∙ sym (flag_same p kinds other truth gates r o same))
 
@@ -122,7 +122,7 @@ IsFree p kinds upper r u free = (m : Reading) → IsWithin p kinds upper m → (
 pub named_more : (p : Posed) (kinds : Kinds) (upper : List ℕ) (old middle new : List Node) (es : Named) (r : RelVar) (u : Use) (free : ℕ → Bool) (gates : List ℕ) → 2 ≤ p.scope.ints → length p.unit.classes ≤ 16
     → IsOf middle 0 → length old ≤ length middle → has_use p kinds u r.what ≡ true → IsFree p kinds upper r u free → gates_of es r ≡ None → AreNamed p kinds upper old middle es → AreInputs middle new (gate_count p u r) free gates
     → AreNamed p kinds upper old new (es ++ (r, gates) ∷ [])
-named_more p kinds upper old middle new es r u free gates wide few some longer use lacking none named are = record { of = of; shown = shown }
+named_more p kinds upper old middle new es r u free gates wide few some longer its lacking none named are = record { of = of; shown = shown }
   where
     grown : Named
     grown = es ++ (r, gates) ∷ []
@@ -166,8 +166,8 @@ named_more p kinds upper old middle new es r u free gates wide few some longer u
                   let there_are : gates_of grown s ≡ Some gates = found_last es ((r, gates) ∷ []) s there ∙ ap (λ b. if b then Some gates else None) same in
                   subst (λ found. AgreesWith p kinds (value last.inputs new) found m s) (sym there_are)
                   (subst (λ t. AgreesWith p kinds (value last.inputs new) (Some gates) m t) (same_relation-is r s same)
-                  (refs_agree p kinds m r u (value last.inputs new) gates within.of_problem use last.values, number_agrees p kinds m r u (value last.inputs new) gates within.of_problem wide few use last.values,
-                  flag_agrees p kinds m r u (value last.inputs new) gates within.of_problem use last.values))
+                  (refs_agree p kinds m r u (value last.inputs new) gates within.of_problem its last.values, number_agrees p kinds m r u (value last.inputs new) gates within.of_problem wide few its last.values,
+                  flag_agrees p kinds m r u (value last.inputs new) gates within.of_problem its last.values))
               | inr other ↦
                   let absent : gates_of grown s ≡ None = found_last es ((r, gates) ∷ []) s there ∙ ap (λ b. if b then Some gates else None) other in
                   absurd (false≢true (sym (ap is_some absent) ∙ is))

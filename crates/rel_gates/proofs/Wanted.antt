@@ -40,7 +40,7 @@ same_use-is AsClass AsSet is = absurd (false≢true is)
 same_use-is AsClass AsNumber is = absurd (false≢true is)
 same_use-is AsClass AsFlag is = absurd (false≢true is)
 
--- a relation has one use
+-- a relation has one its
 one_of : (found : Option Use) (u t : Use) → option_map_or (same_use u) found false ≡ true → option_map_or (same_use t) found false ≡ true → u ≡ t
 one_of None u t is also = absurd (false≢true is)
 one_of (Some v) u t is also = same_use-is u v is ∙ sym (same_use-is t v also)
@@ -51,7 +51,7 @@ one_use p kinds w u t is also = one_of (use_of p kinds w) u t is also
 -- ## places
 
 pub use_at : (p : Posed) (kinds : Kinds) (u : Use) (r : RelVar) (o : ℕ) → has_place p kinds u r o ≡ true → has_use p kinds u r.what ≡ true
-use_at p kinds u r o is = (and_parts (has_use p kinds u r.what) (nat_lt o p.scope.objects && (not (is_slot r.what) || o == 0)) is).0
+use_at p kinds u r o is = (and_parts (has_use p kinds u r.what) (nat_lt o p.scope.objects) (and_parts (has_use p kinds u r.what && nat_lt o p.scope.objects) (not (is_slot r.what) || o == 0) is).0).0
 
 row_below : (slot : Bool) (o objects : ℕ) → nat_lt o objects ≡ true → (not slot || o == 0) ≡ true → o < (if slot then 1 else objects)
 row_below true o objects less only = (let is : o ≡ 0 = eqb-true o 0 only in omega arith)
@@ -59,9 +59,8 @@ row_below false o objects less only = ltb-true o objects less
 
 pub place_below : (p : Posed) (kinds : Kinds) (u : Use) (r : RelVar) (o : ℕ) → has_place p kinds u r o ≡ true → o < rows_of p r.what
 place_below p kinds u r o is =
-    let rest = (and_parts (has_use p kinds u r.what) (nat_lt o p.scope.objects && (not (is_slot r.what) || o == 0)) is).1 in
-    let parts = and_parts (nat_lt o p.scope.objects) (not (is_slot r.what) || o == 0) rest in
-    row_below (is_slot r.what) o p.scope.objects parts.0 parts.1
+    let parts = and_parts (has_use p kinds u r.what && nat_lt o p.scope.objects) (not (is_slot r.what) || o == 0) is in
+    row_below (is_slot r.what) o p.scope.objects (and_parts (has_use p kinds u r.what) (nat_lt o p.scope.objects) parts.0).1 parts.1
 
 pub index_below : (p : Posed) (kinds : Kinds) (u : Use) (r : RelVar) (o i : ℕ) → has_place p kinds u r o ≡ true → i < width_of p u → o * width_of p u + i < gate_count p u r
 index_below p kinds u r o i is less = grind (arith, mul-add-lt o (width_of p u) i (rows_of p r.what) (place_below p kinds u r o is) less)
@@ -116,10 +115,10 @@ refs_wanted p m r truth gates o v are within is =
 
 pub refs_agree : (p : Posed) (kinds : Kinds) (m : Reading) (r : RelVar) (u : Use) (truth : ℕ → Bool) (gates : List ℕ) → IsOf p kinds m → has_use p kinds u r.what ≡ true → AreWanted p m r u truth gates
     → (o : ℕ) (v : Value) → m.refs r o v ≡ refs_shown p kinds truth (Some gates) r o v
-refs_agree p kinds m r u truth gates of use are o v =
+refs_agree p kinds m r u truth gates of its are o v =
     meets (has_place p kinds AsSet r o) (is_reference p.scope.objects v) (m.refs r o v) (in_row truth (p.scope.objects + 1) gates o (place_of v)) (of.refs r o v)
     (λ there is.
-    refs_wanted p m r truth gates o v (subst (λ t. AreWanted p m r t truth gates) (one_use p kinds r.what u AsSet use (use_at p kinds AsSet r o there)) are)
+    refs_wanted p m r truth gates o v (subst (λ t. AreWanted p m r t truth gates) (one_use p kinds r.what u AsSet its (use_at p kinds AsSet r o there)) are)
     (index_below p kinds AsSet r o (place_of v) there (place_within p.scope.objects v is)) is)
 
 -- ### flags
@@ -131,10 +130,10 @@ flag_meets false false y only same = refl
 
 pub flag_agrees : (p : Posed) (kinds : Kinds) (m : Reading) (r : RelVar) (u : Use) (truth : ℕ → Bool) (gates : List ℕ) → IsOf p kinds m → has_use p kinds u r.what ≡ true → AreWanted p m r u truth gates
     → (o : ℕ) → m.flag r o ≡ flag_shown p kinds truth (Some gates) r o
-flag_agrees p kinds m r u truth gates of use are o =
+flag_agrees p kinds m r u truth gates of its are o =
     flag_meets (has_place p kinds AsFlag r o) (m.flag r o) (in_row truth 1 gates o 0) (of.flags r o)
     (λ there.
-    let there_are = subst (λ t. AreWanted p m r t truth gates) (one_use p kinds r.what u AsFlag use (use_at p kinds AsFlag r o there)) are in
+    let there_are = subst (λ t. AreWanted p m r t truth gates) (one_use p kinds r.what u AsFlag its (use_at p kinds AsFlag r o there)) are in
     let same : o * 1 + 0 ≡ o = omega arith in
     ap (m.flag r) (sym same) ∙ sym (there_are (o * 1 + 0) (index_below p kinds AsFlag r o 0 there (omega arith))))
 
@@ -193,58 +192,58 @@ class_of : (p : Posed) (z : ℤ) → is_class_number p z ≡ true → (c : ℕ) 
 class_of p (pos c) is = (c, refl, ltb-true c (length p.unit.classes) is)
 class_of p (negsuc n) is = absurd (false≢true is)
 
--- what a number of the problem can be at a place
+-- what a number of the problem can be at a place: 0, a number within the bits, or the number of a class
 in_bits_of : (p : Posed) (kinds : Kinds) (r : RelVar) (o : ℕ) (z : ℤ) → can_have p kinds r o z ≡ true → has_place p kinds AsNumber r o ≡ true → in_bits p.scope.ints z ≡ true
 in_bits_of p kinds r o z can there =
-    elim (or_cases (int_eq z (pos 0)) ((has_place p kinds AsNumber r o && in_bits p.scope.ints z) || (has_place p kinds AsClass r o && is_class_number p z)) can) [
-      | inl zero_is ↦ subst (λ x. in_bits p.scope.ints x ≡ true) (sym ((Decides-int_eq z (pos 0)).0 zero_is)) (lt-ltb 0 (2 ^ (p.scope.ints - 1)) (pow_pos (p.scope.ints - 1)))
-      | inr others ↦ elim (or_cases (has_place p kinds AsNumber r o && in_bits p.scope.ints z) (has_place p kinds AsClass r o && is_class_number p z) others) [
-        | inl here ↦ (and_parts (has_place p kinds AsNumber r o) (in_bits p.scope.ints z) here).1
-        | inr class_is ↦
-            let class_there = (and_parts (has_place p kinds AsClass r o) (is_class_number p z) class_is).0 in
-            let same : AsNumber ≡ AsClass = one_use p kinds r.what AsNumber AsClass (use_at p kinds AsNumber r o there) (use_at p kinds AsClass r o class_there) in
-            absurd (false≢true (sym (ap (same_use AsNumber) same)))
+    elim (or_cases (int_eq z (pos 0) || (has_place p kinds AsNumber r o && in_bits p.scope.ints z)) (has_place p kinds AsClass r o && is_class_number p z) can) [
+      | inl first ↦ elim (or_cases (int_eq z (pos 0)) (has_place p kinds AsNumber r o && in_bits p.scope.ints z) first) [
+        | inl zero_is ↦ subst (λ x. in_bits p.scope.ints x ≡ true) (sym ((Decides-int_eq z (pos 0)).0 zero_is)) (lt-ltb 0 (2 ^ (p.scope.ints - 1)) (pow_pos (p.scope.ints - 1)))
+        | inr here ↦ (and_parts (has_place p kinds AsNumber r o) (in_bits p.scope.ints z) here).1
       ]
+      | inr class_is ↦
+          let class_there = (and_parts (has_place p kinds AsClass r o) (is_class_number p z) class_is).0 in
+          let same : AsNumber ≡ AsClass = one_use p kinds r.what AsNumber AsClass (use_at p kinds AsNumber r o there) (use_at p kinds AsClass r o class_there) in
+          absurd (false≢true (sym (ap (same_use AsNumber) same)))
     ]
 
 class_at : (p : Posed) (kinds : Kinds) (r : RelVar) (o : ℕ) (z : ℤ) → can_have p kinds r o z ≡ true → has_place p kinds AsNumber r o ≡ false → length p.unit.classes ≤ 16 → (c : ℕ) × (z ≡ pos c) × (c < 2 ^ class_bits p)
 class_at p kinds r o z can none few =
-    elim (or_cases (int_eq z (pos 0)) ((has_place p kinds AsNumber r o && in_bits p.scope.ints z) || (has_place p kinds AsClass r o && is_class_number p z)) can) [
-      | inl zero_is ↦ (0, (Decides-int_eq z (pos 0)).0 zero_is, pow_pos (class_bits p))
-      | inr others ↦ elim (or_cases (has_place p kinds AsNumber r o && in_bits p.scope.ints z) (has_place p kinds AsClass r o && is_class_number p z) others) [
-        | inl here ↦ absurd (false≢true (sym none ∙ (and_parts (has_place p kinds AsNumber r o) (in_bits p.scope.ints z) here).0))
-        | inr class_is ↦
-            let found = class_of p z (and_parts (has_place p kinds AsClass r o) (is_class_number p z) class_is).1 in
-            (found.0, found.1, classes_fit p found.0 few found.2)
+    elim (or_cases (int_eq z (pos 0) || (has_place p kinds AsNumber r o && in_bits p.scope.ints z)) (has_place p kinds AsClass r o && is_class_number p z) can) [
+      | inl first ↦ elim (or_cases (int_eq z (pos 0)) (has_place p kinds AsNumber r o && in_bits p.scope.ints z) first) [
+        | inl zero_is ↦ (0, (Decides-int_eq z (pos 0)).0 zero_is, pow_pos (class_bits p))
+        | inr here ↦ absurd (false≢true (sym none ∙ (and_parts (has_place p kinds AsNumber r o) (in_bits p.scope.ints z) here).0))
       ]
+      | inr class_is ↦
+          let found = class_of p z (and_parts (has_place p kinds AsClass r o) (is_class_number p z) class_is).1 in
+          (found.0, found.1, classes_fit p found.0 few found.2)
     ]
 
 no_number : (p : Posed) (kinds : Kinds) (r : RelVar) (o : ℕ) (z : ℤ) → can_have p kinds r o z ≡ true → has_place p kinds AsNumber r o ≡ false → has_place p kinds AsClass r o ≡ false → z ≡ pos 0
 no_number p kinds r o z can none nor =
-    elim (or_cases (int_eq z (pos 0)) ((has_place p kinds AsNumber r o && in_bits p.scope.ints z) || (has_place p kinds AsClass r o && is_class_number p z)) can) [
-      | inl zero_is ↦ (Decides-int_eq z (pos 0)).0 zero_is
-      | inr others ↦ elim (or_cases (has_place p kinds AsNumber r o && in_bits p.scope.ints z) (has_place p kinds AsClass r o && is_class_number p z) others) [
-        | inl here ↦ absurd (false≢true (sym none ∙ (and_parts (has_place p kinds AsNumber r o) (in_bits p.scope.ints z) here).0))
-        | inr class_is ↦ absurd (false≢true (sym nor ∙ (and_parts (has_place p kinds AsClass r o) (is_class_number p z) class_is).0))
+    elim (or_cases (int_eq z (pos 0) || (has_place p kinds AsNumber r o && in_bits p.scope.ints z)) (has_place p kinds AsClass r o && is_class_number p z) can) [
+      | inl first ↦ elim (or_cases (int_eq z (pos 0)) (has_place p kinds AsNumber r o && in_bits p.scope.ints z) first) [
+        | inl zero_is ↦ (Decides-int_eq z (pos 0)).0 zero_is
+        | inr here ↦ absurd (false≢true (sym none ∙ (and_parts (has_place p kinds AsNumber r o) (in_bits p.scope.ints z) here).0))
       ]
+      | inr class_is ↦ absurd (false≢true (sym nor ∙ (and_parts (has_place p kinds AsClass r o) (is_class_number p z) class_is).0))
     ]
 
 pub number_agrees : (p : Posed) (kinds : Kinds) (m : Reading) (r : RelVar) (u : Use) (truth : ℕ → Bool) (gates : List ℕ) → IsOf p kinds m → 2 ≤ p.scope.ints → length p.unit.classes ≤ 16
     → has_use p kinds u r.what ≡ true → AreWanted p m r u truth gates → (o : ℕ) → m.number r o ≡ number_shown p kinds truth (Some gates) r o
-number_agrees p kinds m r u truth gates of wide few use are o =
+number_agrees p kinds m r u truth gates of wide few its are o =
     let as_number = signed (row_bits truth p.scope.ints gates o) in
     let as_class = pos (number (row_bits truth (class_bits p) gates o)) in
     let shown = λ (a b : Bool). if a then as_number else (if b then as_class else pos 0) in
     elim (cases_Bool (has_place p kinds AsNumber r o)) [
       | inl there ↦
           number_wanted p kinds m r truth gates o (p.scope.ints - 1)
-          (subst (λ t. AreWanted p m r t truth gates) (one_use p kinds r.what u AsNumber use (use_at p kinds AsNumber r o there)) are) there (omega (arith, wide)) (in_bits_of p kinds r o (m.number r o) (of.numbers r o) there)
+          (subst (λ t. AreWanted p m r t truth gates) (one_use p kinds r.what u AsNumber its (use_at p kinds AsNumber r o there)) are) there (omega (arith, wide)) (in_bits_of p kinds r o (m.number r o) (of.numbers r o) there)
           ∙ sym (ap (λ a. shown a (has_place p kinds AsClass r o)) there)
       | inr none ↦ elim (cases_Bool (has_place p kinds AsClass r o)) [
         | inl there ↦
             let found = class_at p kinds r o (m.number r o) (of.numbers r o) none few in
             class_wanted p kinds m r truth gates o found.0
-            (subst (λ t. AreWanted p m r t truth gates) (one_use p kinds r.what u AsClass use (use_at p kinds AsClass r o there)) are) there found.1 found.2
+            (subst (λ t. AreWanted p m r t truth gates) (one_use p kinds r.what u AsClass its (use_at p kinds AsClass r o there)) are) there found.1 found.2
             ∙ sym (ap (λ a. shown a (has_place p kinds AsClass r o)) none ∙ ap (shown false) there)
         | inr nor ↦ no_number p kinds r o (m.number r o) (of.numbers r o) none nor ∙ sym (ap (λ a. shown a (has_place p kinds AsClass r o)) none ∙ ap (shown false) nor)
       ]

@@ -1,5 +1,5 @@
 -- What the circuit of a formula is. (This project's own.)
-use Rattle.std.specs.Prelude.{◌≡◌, ℕ, ◌*◌*◌, ◌<◌, ◌≤◌, Bool, true, List, length, slice_get, IsTrue, ◌≢◌}
+use Rattle.std.specs.Prelude.{◌≡◌, ℕ, ◌*◌, ◌<◌, ◌≤◌, Bool, true, List, length, slice_get, IsTrue, ◌≢◌}
 use Rattle.std.specs.List.{slice_index_or}
 use Rattle.gate_core.specs.declared.circuit.Node.{Node}
 use Rattle.gate_core.specs.declared.circuit.Node.TheVariants.{Input}

@@ -1,5 +1,5 @@
 -- Which relations a formula names, and with how many gates; new inputs. (This project's own.)
-use Rattle.std.specs.Prelude.{◌≡◌, ℕ, ◌+◌, ◌*◌, ◌<◌, ◌≤◌, ◌==◌, Bool, true, false, ◌&&◌, List, [], ◌∷◌, ◌++◌, length, slice_get, Option, Some, None, IsTrue, All}
+use Rattle.std.specs.Prelude.{◌≡◌, ℕ, ◌+◌, ◌*◌, ◌<◌, ◌≤◌, ◌==◌, Bool, true, false, ◌&&◌, List, [], ◌∷◌, ◌++◌, length, map, flat_map, slice_get, Option, Some, None, IsTrue, All}
 use Rattle.std.specs.List.{slice_index_or, list_all}
 use Rattle.std.specs.Option.{option_map_or}
 use Rattle.gate_core.specs.declared.circuit.Node.{Node}
@@ -15,61 +15,77 @@ use Rattle.rel_core.specs.declared.formula.Formula.{Formula, fold-Formula}
 use Rattle.rel_core.specs.declared.formula.Formula.TheOpen.{Formula-F}
 use Rattle.rel_core.specs.Reading.{Reading}
 use Rattle.rel_core.specs.Uses.{IsOf as IsOfProblem, Kinds, Use, AsSet, AsNumber, AsFlag, AsClass, use_of, has_use}
-use Rattle.rel_gates.specs.Shown.{Named, gates_of, is_named, gate_count, Agrees, HoldsOnly}
+use Rattle.rel_gates.specs.Shown.{Named, gates_of, is_named, width_of, gate_count, Agrees, HoldsOnly}
 
--- ## formulas whose relations are named
+-- ## the relations that a formula uses, each with the number of gates that its use wants
 
--- the relation is named, with as many gates as this use wants
-abbrev pub has_gates : Posed → Named → Use → RelVar → Bool
-has_gates p es u r = option_map_or (λ gates. length gates == gate_count p u r) (gates_of es r) false
+abbrev pub Wanted : Type 0
+Wanted = List (RelVar × ℕ)
 
-abbrev pub named_set_step : Posed → Named → RelExpr-F Bool → Bool
-named_set_step p es (RelExpr-F.Var r) = has_gates p es AsSet r
-named_set_step p es RelExpr-F.Nil = true
-named_set_step p es (RelExpr-F.Object o) = true
-named_set_step p es (RelExpr-F.Join e r) = e && has_gates p es AsSet r
-named_set_step p es (RelExpr-F.Reach e rs) = e && list_all (has_gates p es AsSet) rs
+-- a variable has one row, and every other relation one for each object
+abbrev pub wanted_one : Posed → Use → RelVar → RelVar × ℕ
+wanted_one p u r = (r, width_of p u)
 
-abbrev pub is_named_set : Posed → Named → RelExpr → Bool
-is_named_set p es = fold-RelExpr Bool (named_set_step p es)
+abbrev pub wanted_each : Posed → Use → RelVar → RelVar × ℕ
+wanted_each p u r = (r, p.scope.objects * width_of p u)
 
-abbrev pub named_number_step : Posed → Named → NumExpr-F Bool → Bool
-named_number_step p es (NumExpr-F.Const z) = true
-named_number_step p es (NumExpr-F.Var r) = has_gates p es AsNumber r
-named_number_step p es (NumExpr-F.At e r) = is_named_set p es e && has_gates p es AsNumber r
-named_number_step p es (NumExpr-F.Sum a b) = a && b
-named_number_step p es (NumExpr-F.Diff a b) = a && b
-named_number_step p es (NumExpr-F.Product a b) = a && b
-named_number_step p es (NumExpr-F.Count e) = is_named_set p es e
+-- whichever it is
+abbrev pub wanted_rows : Posed → Use → RelVar → RelVar × ℕ
+wanted_rows p u r = (r, gate_count p u r)
 
-abbrev pub is_named_number : Posed → Named → NumExpr → Bool
-is_named_number p es = fold-NumExpr Bool (named_number_step p es)
+abbrev pub set_uses_step : Posed → RelExpr-F Wanted → Wanted
+set_uses_step p (RelExpr-F.Var r) = wanted_one p AsSet r ∷ []
+set_uses_step p RelExpr-F.Nil = []
+set_uses_step p (RelExpr-F.Object o) = []
+set_uses_step p (RelExpr-F.Join e r) = e ++ wanted_each p AsSet r ∷ []
+set_uses_step p (RelExpr-F.Reach e rs) = e ++ map (wanted_each p AsSet) rs
+
+abbrev pub set_uses : Posed → RelExpr → Wanted
+set_uses p = fold-RelExpr Wanted (set_uses_step p)
+
+abbrev pub number_uses_step : Posed → NumExpr-F Wanted → Wanted
+number_uses_step p (NumExpr-F.Const z) = []
+number_uses_step p (NumExpr-F.Var r) = wanted_one p AsNumber r ∷ []
+number_uses_step p (NumExpr-F.At e r) = set_uses p e ++ wanted_each p AsNumber r ∷ []
+number_uses_step p (NumExpr-F.Sum a b) = a ++ b
+number_uses_step p (NumExpr-F.Diff a b) = a ++ b
+number_uses_step p (NumExpr-F.Product a b) = a ++ b
+number_uses_step p (NumExpr-F.Count e) = set_uses p e
+
+abbrev pub number_uses : Posed → NumExpr → Wanted
+number_uses p = fold-NumExpr Wanted (number_uses_step p)
 
 -- the use of a relation that is no variable
 abbrev pub spread_use : Posed → RelVar → Option Use
 spread_use p r = use_of p (λ x. None) r.what
 
-abbrev pub are_named_for : Posed → Named → RelVar → RelVar → RelVar → Use → Bool
-are_named_for p es new given old u = has_gates p es u new && has_gates p es u given && has_gates p es u old
+abbrev pub changed_uses : Posed → RelVar → RelVar → RelVar → Use → Wanted
+changed_uses p new given old u = wanted_each p u new ∷ wanted_rows p u given ∷ wanted_each p u old ∷ []
 
-abbrev pub named_step : Posed → Named → Formula-F Bool → Bool
-named_step p es (Formula-F.Const b) = true
-named_step p es (Formula-F.Flag r) = has_gates p es AsFlag r
-named_step p es (Formula-F.FlagAt e r) = is_named_set p es e && has_gates p es AsFlag r
-named_step p es (Formula-F.Subset e f) = is_named_set p es e && is_named_set p es f
-named_step p es (Formula-F.IsClass e c r) = is_named_set p es e && has_gates p es AsClass r
-named_step p es (Formula-F.SameNum a b) = is_named_number p es a && is_named_number p es b
-named_step p es (Formula-F.BelowNum a b) = is_named_number p es a && is_named_number p es b
-named_step p es (Formula-F.Fits a) = is_named_number p es a
-named_step p es (Formula-F.Changed new e given old) = is_named_set p es e && option_map_or (are_named_for p es new given old) (spread_use p new) false
-named_step p es (Formula-F.Not f) = f
-named_step p es (Formula-F.And fs) = list_all (λ f. f) fs
-named_step p es (Formula-F.Or fs) = list_all (λ f. f) fs
-named_step p es (Formula-F.Same f g) = f && g
+abbrev pub uses_step : Posed → Formula-F Wanted → Wanted
+uses_step p (Formula-F.Const b) = []
+uses_step p (Formula-F.Flag r) = wanted_one p AsFlag r ∷ []
+uses_step p (Formula-F.FlagAt e r) = set_uses p e ++ wanted_each p AsFlag r ∷ []
+uses_step p (Formula-F.Subset e f) = set_uses p e ++ set_uses p f
+uses_step p (Formula-F.IsClass e c r) = set_uses p e ++ wanted_each p AsClass r ∷ []
+uses_step p (Formula-F.SameNum a b) = number_uses p a ++ number_uses p b
+uses_step p (Formula-F.BelowNum a b) = number_uses p a ++ number_uses p b
+uses_step p (Formula-F.Fits a) = number_uses p a
+uses_step p (Formula-F.Changed new e given old) = set_uses p e ++ option_map_or (changed_uses p new given old) (spread_use p new) []
+uses_step p (Formula-F.Not f) = f
+uses_step p (Formula-F.And fs) = flat_map (λ f. f) fs
+uses_step p (Formula-F.Or fs) = flat_map (λ f. f) fs
+uses_step p (Formula-F.Same f g) = f ++ g
 
--- all relations of the formula are named
-abbrev pub is_named_formula : Posed → Named → Formula → Bool
-is_named_formula p es = fold-Formula Bool (named_step p es)
+abbrev pub uses : Posed → Formula → Wanted
+uses p = fold-Formula Wanted (uses_step p)
+
+-- the relation is named, with as many gates
+abbrev pub is_named_for : Named → RelVar × ℕ → Bool
+is_named_for es x = option_map_or (λ gates. length gates == x.1) (gates_of es x.0) false
+
+abbrev pub are_named : Named → Wanted → Bool
+are_named es xs = list_all (is_named_for es) xs
 
 -- ## new inputs
 
@@ -89,6 +105,11 @@ pub record IsOwn (old new : List Node) (gate : ℕ) : Type 0 where
   pub is : gate ≡ 2 * place
   pub input : StandsAt new Input place
   pub fresh : length old ≤ place
+
+-- a gate of the circuit that is always false
+pub record IsConstant (nodes : List Node) (gate : ℕ) : Type 0 where
+  pub of : IsOf nodes gate
+  pub value_is : (inputs : ℕ → Bool) → value inputs nodes gate ≡ false
 
 -- so many gates: each is false where its place is not free, and else an input that was not there before
 pub record AreInputs (old new : List Node) (count : ℕ) (free : ℕ → Bool) (gates : List ℕ) : Type 0 where
@@ -113,10 +134,6 @@ pub record IsShown (p : Posed) (kinds : Kinds) (old new : List Node) (es : Named
   pub inputs : ℕ → Bool
   pub same : SameBefore old before inputs
   pub agrees : Agrees p kinds (value inputs new) es m
-
--- how relations are used: each with the number of gates that its use wants
-abbrev pub Wanted : Type 0
-Wanted = List (RelVar × ℕ)
 
 -- the uses are by these kinds
 abbrev pub FitUses : Posed → Kinds → Wanted → Type 0

@@ -3,5 +3,6 @@
 #![tactic(auto)]
 
 mod inputs;
+mod members;
 mod named;
 mod naming;

@@ -1,4 +1,4 @@
-ghost use Rattle.std.specs.Prelude.{◌≡◌, ◌&&◌, ◌∷◌, ◌++◌, [], option_map, OnOk, OnErr};
+ghost use Rattle.std.specs.Prelude.{◌≡◌, ◌&&◌, ◌∷◌, ◌++◌, [], map, option_map, OnOk, OnErr};
 ghost use Rattle.rel_core.specs.Reading.{same_what as same_what_lem, same_relation as same_relation_lem};
 ghost use Rattle.rel_gates.specs.Shown.{gates_of};
 
@@ -47,6 +47,18 @@ fn same_relation(a: RelVar, b: RelVar) -> bool
     same_what(a.what, b.what) && a.index == b.index
 }
 
+/// The gates that stand first for a relation.
+fn find_in(entries: &[Entry], relation: RelVar) -> Option<&[Gate]>
+    ensures { option_map (λ gates. gates.now) result ≡ gates_of (map (λ e. (e.relation, e.gates.items)) entries.now) relation }
+{
+    for entry in entries {
+        if same_relation(entry.relation, relation) {
+            return Some(entry.gates.as_slice());
+        }
+    }
+    None
+}
+
 impl Relations {
     /// No relation.
     pub(crate) fn new(alloc: Global) -> Relations
@@ -61,12 +73,7 @@ impl Relations {
     pub(crate) fn find(&self, relation: RelVar) -> Option<&[Gate]>
         ensures { option_map (λ gates. gates.now) result ≡ gates_of self.now relation }
     {
-        for entry in &self.entries {
-            if same_relation(entry.relation, relation) {
-                return Some(entry.gates.as_slice());
-            }
-        }
-        None
+        find_in(self.entries.as_slice(), relation)
     }
 
     /// One relation more.

@@ -1,9 +1,0 @@
-use Rattle.std.proofs.Common.{◌≡◌, drop, map, List, ℕ}
-use Rattle.rel_core.specs.declared.relation.RelVar.{RelVar}
-use Rattle.rel_gates.specs.Shown.{gates_of}
-use Rattle.rel_gates.proofs.named.Relations.find.Given as goal
-
-abbrev pub invariant-loop-entry : goal.invariant-loop-entry
-invariant-loop-entry l =
-    gates_of (map (λ e. (e.relation, e.gates.items)) (drop l.entry-index l.self.entries.items)) l.relation
-    ≡ gates_of (map (λ e. (e.relation, e.gates.items)) l.self.entries.items) l.relation
