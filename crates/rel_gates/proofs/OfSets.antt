@@ -3,7 +3,7 @@ use Rattle.std.proofs.Common.{◌≡◌, ℕ, zero, suc, ◌+◌, ◌*◌, ◌<�
 use Rattle.std.specs.Prelude.{◌==◌, nat_lt, IsTrue}
 use Rattle.std.specs.List.{list_any, list_all, range_with_len}
 use Rattle.std.specs.Option.{option_map_or}
-use Rattle.std.proofs.lemmas.Bool.{false≢true, and_parts, and_from, or_left, or_right, lt-ltb, eq-eqb, ne_eqb, cases_eq}
+use Rattle.std.proofs.lemmas.Bool.{false≢true, and_parts, and_from, or_left, or_right, lt-ltb, eq-eqb, eqb-true, ne_eqb, cases_eq}
 use Rattle.gate_core.specs.declared.circuit.Node.{Node}
 use Rattle.gate_core.specs.Circuit.{value, IsOf, Keeps}
 use Rattle.gate_sets.specs.Lists.{AreTruths}
@@ -21,6 +21,7 @@ use Rattle.rel_core.specs.Meaning.{ValueSet, has_object, joined, set_of}
 use Rattle.rel_core.specs.Uses.{Kinds, Use, AsSet, is_slot, has_use, is_variable, is_spread, has_place, is_sorted_set, IsOf as IsOfProblem}
 use Rattle.rel_core.proofs.Forms.{set_var, set_nil, set_object, set_join, sorted_set_var, sorted_set_join}
 use Rattle.rel_gates.specs.Shown.{Named, gates_of, is_named, place_of, in_row, refs_shown, reading_shown, Agrees}
+use Rattle.rel_gates.specs.Naming.{is_named_for}
 use Rattle.rel_gates.specs.Meant.{Stand, reference_at, IsSeen, AreSet}
 use Rattle.rel_gates.proofs.Growing.{AgreesWith, stands_same, agree_from, agree_to, agree_kept}
 
@@ -130,3 +131,18 @@ object_members p es nodes q places truths = record {
   wide = truths.wide;
   values = λ kinds m inputs sorted seen i within. truths.values inputs i within ∙ object_at q i ∙ sym (ap (λ (t : ValueSet). t (reference_at i)) (set_object q m));
 }
+
+-- ## how many gates a named relation has
+
+named_by : (found : Option (List ℕ)) (rows : List ℕ) (n : ℕ) → option_map_or (λ gates. length gates == n) found false ≡ true → found ≡ Some rows → length rows ≡ n
+named_by found rows n is there = eqb-true (length rows) n (sym (ap (λ f. option_map_or (λ (gates : List ℕ). length gates == n) f false) there) ∙ is)
+
+pub named_count : (es : Named) (r : RelVar) (n : ℕ) (rows : List ℕ) → is_named_for es (r, n) ≡ true → gates_of es r ≡ Some rows → length rows ≡ n
+named_count es r n rows is there = named_by (gates_of es r) rows n is there
+
+pub is_named_by : (es : Named) (r : RelVar) (n : ℕ) → is_named_for es (r, n) ≡ true → is_named es r ≡ true
+is_named_by es r n is = by (gates_of es r) is
+  where
+    by : (found : Option (List ℕ)) → option_map_or (λ gates. length gates == n) found false ≡ true → is_some found ≡ true
+    by None none = absurd (false≢true none)
+    by (Some gates) there = refl

@@ -14,3 +14,8 @@ loop-number-preserved c =
     subst (λ gs. AreTruths nodes (number + 1) truth gs) (sym c.in_ok-push.ensures.items)
     (truths_more nodes nodes number truth c.loop-number.list.items c.constant.result c.loop-number.invariant (keeps_same nodes nodes refl)
     (record { of = c.constant.ensures.of; value_is = c.constant.ensures.value }))
+
+pub returns : goal.returns
+returns c =
+    let all : c.loop-number.number ≡ c.args.objects + 1 = (let same : c.from.result ≡ c.args.objects = c.from.ensures in omega (arith, same)) in
+    subst (λ n. AreTruths c.args.gates.now n (λ (inputs : ℕ → Bool) (i : ℕ). i == c.args.place) c.loop-number.list.items) all c.loop-number.invariant
