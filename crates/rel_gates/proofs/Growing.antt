@@ -3,7 +3,7 @@ use Rattle.std.proofs.Common.{◌≡◌, ℕ, zero, suc, ◌+◌, ◌*◌, ◌<�
 use Rattle.std.specs.Prelude.{◌==◌, if◌then◌else◌, IsTrue}
 use Rattle.std.specs.List.{range_with_len}
 use Rattle.std.specs.Option.{option_map_or}
-use Rattle.std.proofs.lemmas.Bool.{false≢true, cases_Bool, cases_lt, and_parts, eqb-true, eq-eqb}
+use Rattle.std.proofs.lemmas.Bool.{false≢true, cases_Bool, cases_lt, and_parts, and_from, eqb-true, eq-eqb}
 use Rattle.std.proofs.lemmas.List.{get_or_past}
 use Rattle.gate_arith.specs.Numbers.{number, signed}
 use Rattle.gate_core.specs.declared.circuit.Node.{Node}
@@ -175,3 +175,12 @@ named_more p kinds upper old middle new es r u free gates wide few some longer i
 
         agrees : Agrees p kinds (value last.inputs new) grown m
         agrees s is = agree_from p kinds (value last.inputs new) grown m s (at s (gates_of es s) refl is)
+
+same_what-refl : (a : What) → same_what a a ≡ true
+same_what-refl what.Live = refl
+same_what-refl what.ClassOf = refl
+same_what-refl (what.Field f) = eq-eqb f f refl
+same_what-refl (what.Slot x) = eq-eqb x x refl
+
+pub same_relation-refl : (r : RelVar) → same_relation r r ≡ true
+same_relation-refl r = and_from (same_what r.what r.what) (r.index == r.index) (same_what-refl r.what) (eq-eqb r.index r.index refl)

@@ -1,7 +1,7 @@
 -- The gates of sets, numbers and formulas: what they have under each reading that the inputs show. (This project's
 -- own.)
-use Rattle.std.specs.Prelude.{◌≡◌, ℕ, zero, suc, ◌+◌, ◌<◌, Bool, true, List, length, Option, Some, None, is_some, All, IsTrue}
-use Rattle.std.specs.List.{slice_index_or}
+use Rattle.std.specs.Prelude.{◌≡◌, ℕ, zero, suc, ◌+◌, ◌*◌, ◌<◌, Bool, true, List, length, Option, Some, None, is_some, All, IsTrue}
+use Rattle.std.specs.List.{slice_index_or, list_all}
 use Rattle.gate_core.specs.declared.circuit.Node.{Node}
 use Rattle.gate_core.specs.Circuit.{value, IsOf}
 use Rattle.heap_core.specs.declared.value.Value.{Value}
@@ -11,9 +11,9 @@ use Rattle.rel_core.specs.declared.relation.RelVar.{RelVar}
 use Rattle.rel_core.specs.declared.sets.RelExpr.{RelExpr}
 use Rattle.rel_core.specs.declared.formula.Formula.{Formula}
 use Rattle.rel_core.specs.Reading.{Reading}
-use Rattle.rel_core.specs.Meaning.{set_of, holds}
-use Rattle.rel_core.specs.Uses.{Kinds, is_sorted_set, is_sorted, IsOf as IsOfProblem}
-use Rattle.rel_gates.specs.Shown.{Named, gates_of, Agrees}
+use Rattle.rel_core.specs.Meaning.{set_of, holds, leads}
+use Rattle.rel_core.specs.Uses.{Kinds, AsSet, is_spread, is_sorted_set, is_sorted, IsOf as IsOfProblem}
+use Rattle.rel_gates.specs.Shown.{Named, gates_of, in_row, Agrees}
 
 -- the gates of named relations are of the circuit
 abbrev pub Stand : List Node → Named → Type 0
@@ -40,3 +40,10 @@ pub record AreSet (p : Posed) (es : Named) (nodes : List Node) (e : RelExpr) (ga
 pub record IsTruthOf (p : Posed) (es : Named) (nodes : List Node) (f : Formula) (gate : ℕ) : Type 0 where
   pub of : IsOf nodes gate
   pub truth : (kinds : Kinds) (m : Reading) (inputs : ℕ → Bool) → IsTrue (is_sorted p kinds f) → IsSeen p kinds nodes es inputs m → value inputs nodes gate ≡ holds f m
+
+-- the edges of relations: from an object to another wherever one of them leads so
+pub record AreEdges (p : Posed) (es : Named) (nodes : List Node) (rs : List RelVar) (graph : List ℕ) : Type 0 where
+  pub of : All (IsOf nodes) graph
+  pub long : length graph ≡ p.scope.objects * p.scope.objects
+  pub values : (kinds : Kinds) (m : Reading) (inputs : ℕ → Bool) → IsTrue (list_all (is_spread p kinds AsSet) rs) → IsSeen p kinds nodes es inputs m
+      → (q o : ℕ) → q < p.scope.objects → o < p.scope.objects → in_row (value inputs nodes) p.scope.objects graph q o ≡ leads m rs q o

@@ -135,10 +135,14 @@ pub record IsShown (p : Posed) (kinds : Kinds) (old new : List Node) (es : Named
   pub same : SameBefore old before inputs
   pub agrees : Agrees p kinds (value inputs new) es m
 
+-- the use is by these kinds
+abbrev pub FitsUse : Posed → Kinds → RelVar × ℕ → Type 0
+FitsUse p kinds x = (u : Use) × IsTrue (has_use p kinds u x.0.what) × (x.1 ≡ gate_count p u x.0)
+
 -- the uses are by these kinds
 abbrev pub FitUses : Posed → Kinds → Wanted → Type 0
 FitUses p kinds uses =
-    (i : ℕ) (x : RelVar × ℕ) → slice_get uses i ≡ Some x → (u : Use) × IsTrue (has_use p kinds u x.0.what) × (x.1 ≡ gate_count p u x.0)
+    (i : ℕ) (x : RelVar × ℕ) → slice_get uses i ≡ Some x → FitsUse p kinds x
 
 -- the gates of named relations stand, and each reading of the problem that holds only tuples of the set is shown
 pub record AreNamed (p : Posed) (kinds : Kinds) (upper : List ℕ) (old new : List Node) (es : Named) : Type 0 where
@@ -149,3 +153,29 @@ pub record AreNamed (p : Posed) (kinds : Kinds) (upper : List ℕ) (old new : Li
 pub data Names (old new : List Node) (es fs : Named) (r : RelVar) (count : ℕ) : Type 0 where
   Stays : IsTrue (is_named es r) → new ≡ old → fs ≡ es → Names old new es fs r count
   Grows : (gates : List ℕ) → gates_of es r ≡ None → fs ≡ es ++ (r, gates) ∷ [] → AreInputs old new count (λ j. true) gates → Names old new es fs r count
+
+-- ## the naming of all relations
+
+-- each named relation has as many gates as its use wants
+abbrev pub Counted : Posed → Kinds → Named → Type 0
+Counted p kinds es =
+    (r : RelVar) (gates : List ℕ) → gates_of es r ≡ Some gates → (u : Use) → IsTrue (has_use p kinds u r.what) → length gates ≡ gate_count p u r
+
+-- how far the naming has come, from a circuit on
+pub record IsNaming (p : Posed) (kinds : Kinds) (upper : List ℕ) (old new : List Node) (es : Named) : Type 0 where
+  pub named : AreNamed p kinds upper old new es
+  pub counted : Counted p kinds es
+  pub some : IsOf new 0
+  pub longer : length old ≤ length new
+
+-- numbers have a sign and more, and class numbers have four bits at most
+pub record IsSmall (p : Posed) : Type 0 where
+  pub ints : 2 ≤ p.scope.ints
+  pub classes : length p.unit.classes ≤ 16
+
+-- the first uses of a list are named, and what was named still is
+pub record NamesFirst (before after : List Node) (es fs : Named) (wanted : Wanted) (count : ℕ) : Type 0 where
+  pub goes_on : (p : Posed) (kinds : Kinds) (upper : List ℕ) (old : List Node) → IsSmall p → FitUses p kinds wanted → IsNaming p kinds upper old before es → IsNaming p kinds upper old after fs
+  pub there : (p : Posed) (kinds : Kinds) (upper : List ℕ) (old : List Node) → IsSmall p → FitUses p kinds wanted → IsNaming p kinds upper old before es
+      → (i : ℕ) (x : RelVar × ℕ) → i < count → slice_get wanted i ≡ Some x → IsTrue (is_named_for fs x)
+  pub stays : (x : RelVar × ℕ) → IsTrue (is_named_for es x) → IsTrue (is_named_for fs x)

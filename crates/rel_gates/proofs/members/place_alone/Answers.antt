@@ -17,5 +17,5 @@ loop-number-preserved c =
 
 pub returns : goal.returns
 returns c =
-    let all : c.loop-number.number ≡ c.args.objects + 1 = (let same : c.from.result ≡ c.args.objects = c.from.ensures in omega (arith, same)) in
+    let all : c.loop-number.number ≡ c.args.objects + 1 = (let same : c.from-number-end.result ≡ c.args.objects = c.from-number-end.ensures in omega (arith, same)) in
     subst (λ n. AreTruths c.args.gates.now n (λ (inputs : ℕ → Bool) (i : ℕ). i == c.args.place) c.loop-number.list.items) all c.loop-number.invariant
