@@ -3,6 +3,7 @@ pub mod Digits
 pub mod Wanted
 pub mod Growing
 pub mod UseForms
+pub mod Fitting
 pub mod OfSets
 pub mod OfGraphs
 pub mod AllNamed

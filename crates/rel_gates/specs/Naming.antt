@@ -14,7 +14,7 @@ use Rattle.rel_core.specs.declared.numbers.NumExpr.TheOpen.{NumExpr-F}
 use Rattle.rel_core.specs.declared.formula.Formula.{Formula, fold-Formula}
 use Rattle.rel_core.specs.declared.formula.Formula.TheOpen.{Formula-F}
 use Rattle.rel_core.specs.Reading.{Reading}
-use Rattle.rel_core.specs.Uses.{IsOf as IsOfProblem, Kinds, Use, AsSet, AsNumber, AsFlag, AsClass, use_of, has_use}
+use Rattle.rel_core.specs.Uses.{IsOf as IsOfProblem, Kinds, Use, AsSet, AsNumber, AsFlag, AsClass, use_of, has_use, is_sorted_set}
 use Rattle.rel_gates.specs.Shown.{Named, gates_of, is_named, width_of, gate_count, Agrees, HoldsOnly}
 
 -- ## the relations that a formula uses, each with the number of gates that its use wants
@@ -179,3 +179,7 @@ pub record NamesFirst (before after : List Node) (es fs : Named) (wanted : Wante
   pub there : (p : Posed) (kinds : Kinds) (upper : List ℕ) (old : List Node) → IsSmall p → FitUses p kinds wanted → IsNaming p kinds upper old before es
       → (i : ℕ) (x : RelVar × ℕ) → i < count → slice_get wanted i ≡ Some x → IsTrue (is_named_for fs x)
   pub stays : (x : RelVar × ℕ) → IsTrue (is_named_for es x) → IsTrue (is_named_for fs x)
+
+-- the uses of a set are by the kinds by which it is sorted
+abbrev pub SetFits : Posed → RelExpr → Type 0
+SetFits p e = (kinds : Kinds) → IsTrue (is_sorted_set p kinds e) → FitUses p kinds (set_uses p e)

@@ -6,3 +6,4 @@ mod inputs;
 mod members;
 mod named;
 mod naming;
+mod uses;
