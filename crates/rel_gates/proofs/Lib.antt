@@ -7,3 +7,4 @@ pub mod Fitting
 pub mod OfSets
 pub mod OfGraphs
 pub mod AllNamed
+pub mod Told

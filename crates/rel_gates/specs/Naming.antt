@@ -5,6 +5,7 @@ use Rattle.std.specs.Option.{option_map_or}
 use Rattle.gate_core.specs.declared.circuit.Node.{Node}
 use Rattle.gate_core.specs.declared.circuit.Node.TheVariants.{Input}
 use Rattle.gate_core.specs.Circuit.{value, IsOf, Keeps, StandsAt}
+use Rattle.gate_arith.specs.Numbers.{number}
 use Rattle.heap_core.specs.Posed.{Posed}
 use Rattle.rel_core.specs.declared.relation.RelVar.{RelVar}
 use Rattle.rel_core.specs.declared.sets.RelExpr.{RelExpr, fold-RelExpr}
@@ -14,8 +15,8 @@ use Rattle.rel_core.specs.declared.numbers.NumExpr.TheOpen.{NumExpr-F}
 use Rattle.rel_core.specs.declared.formula.Formula.{Formula, fold-Formula}
 use Rattle.rel_core.specs.declared.formula.Formula.TheOpen.{Formula-F}
 use Rattle.rel_core.specs.Reading.{Reading}
-use Rattle.rel_core.specs.Uses.{IsOf as IsOfProblem, Kinds, Use, AsSet, AsNumber, AsFlag, AsClass, use_of, has_use, is_sorted_set}
-use Rattle.rel_gates.specs.Shown.{Named, gates_of, is_named, width_of, gate_count, Agrees, HoldsOnly}
+use Rattle.rel_core.specs.Uses.{IsOf as IsOfProblem, Kinds, Use, AsSet, AsNumber, AsFlag, AsClass, use_of, has_use, has_place, is_sorted_set}
+use Rattle.rel_gates.specs.Shown.{Named, gates_of, is_named, width_of, gate_count, class_bits, row_bits, Agrees, HoldsOnly}
 
 -- ## the relations that a formula uses, each with the number of gates that its use wants
 
@@ -183,3 +184,9 @@ pub record NamesFirst (before after : List Node) (es fs : Named) (wanted : Wante
 -- the uses of a set are by the kinds by which it is sorted
 abbrev pub SetFits : Posed → RelExpr → Type 0
 SetFits p e = (kinds : Kinds) → IsTrue (is_sorted_set p kinds e) → FitUses p kinds (set_uses p e)
+
+-- no class number that is shown is too large
+abbrev pub ClassesFit : Posed → Kinds → (ℕ → Bool) → Named → Type 0
+ClassesFit p kinds truth es =
+    (r : RelVar) (gates : List ℕ) → gates_of es r ≡ Some gates → (o : ℕ) → IsTrue (has_place p kinds AsClass r o)
+    → number (row_bits truth (class_bits p) gates o) < length p.unit.classes
