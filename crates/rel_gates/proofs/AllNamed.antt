@@ -1,17 +1,16 @@
 -- All uses of a list are named, one after the other.
-use Rattle.std.proofs.Common.{◌≡◌, ℕ, zero, suc, ◌+◌, ◌*◌, ◌<◌, ◌≤◌, Bool, true, false, List, [], ◌∷◌, ◌++◌, length, get_or, All, refl, sym, subst, ap, ◌∙◌, arith, inl, inr, Option, Some, None, is_some, length-append}
-use Rattle.std.specs.Prelude.{◌==◌, IsTrue, slice_get, if◌then◌else◌}
+use Rattle.std.proofs.Common.{◌≡◌, ℕ, ◌+◌, true, false, List, [], ◌∷◌, ◌++◌, length, refl, sym, subst, ap, ◌∙◌, arith, inl, inr, Option, Some, None, is_some, length-append}
+use Rattle.std.specs.Prelude.{◌==◌, slice_get, if◌then◌else◌}
 use Rattle.std.specs.Option.{option_map_or}
 use Rattle.std.proofs.lemmas.Bool.{true≢false, false≢true, cases_Bool, cases_lt, eq-eqb}
 use Rattle.gate_core.specs.declared.circuit.Node.{Node}
-use Rattle.gate_core.specs.Circuit.{IsOf, Keeps}
 use Rattle.gate_core.proofs.Values.{of_more}
 use Rattle.heap_core.specs.Posed.{Posed}
 use Rattle.rel_core.specs.declared.relation.RelVar.{RelVar}
 use Rattle.rel_core.specs.Reading.{same_relation}
-use Rattle.rel_core.specs.Uses.{Kinds, Use, has_use}
-use Rattle.rel_gates.specs.Shown.{Named, gates_of, is_named, gate_count}
-use Rattle.rel_gates.specs.Naming.{Wanted, is_named_for, AreInputs, AreNamed, Names, Stays, Grows, FitsUse, FitUses, Counted, IsNaming, IsSmall, NamesFirst}
+use Rattle.rel_core.specs.Uses.{Kinds, has_use}
+use Rattle.rel_gates.specs.Shown.{Named, gates_of, gate_count}
+use Rattle.rel_gates.specs.Naming.{Wanted, is_named_for, AreInputs, Names, Stays, Grows, FitsUse, Counted, IsNaming, IsSmall, NamesFirst}
 use Rattle.rel_gates.proofs.Wanted.{one_use}
 use Rattle.rel_gates.proofs.Growing.{same_relation-is, same_relation-refl, found_first, found_last, named_more}
 
@@ -41,7 +40,8 @@ stays_named old new es fs r count (Stays there same kept) x is = ap (λ ns. is_n
 stays_named old new es fs r count (Grows gates none grown are) x is = ap (λ ns. is_named_for ns x) grown ∙ still_named es ((r, gates) ∷ []) x is
 
 -- a use that fits is named
-pub now_named : (p : Posed) (kinds : Kinds) (old new : List Node) (es fs : Named) (x : RelVar × ℕ) → Counted p kinds es → FitsUse p kinds x → Names old new es fs x.0 x.1 → is_named_for fs x ≡ true
+pub now_named : (p : Posed) (kinds : Kinds) (old new : List Node) (es fs : Named) (x : RelVar × ℕ) → Counted p kinds es → FitsUse p kinds x → Names old new es fs x.0 x.1
+    → is_named_for fs x ≡ true
 now_named p kinds old new es fs x counted fits (Stays there same kept) = ap (λ ns. is_named_for ns x) kept ∙ by (gates_of es x.0) refl there
   where
     by : (found : Option (List ℕ)) → gates_of es x.0 ≡ found → is_some found ≡ true → is_named_for es x ≡ true
@@ -52,13 +52,15 @@ now_named p kinds old new es fs x counted fits (Grows gates none grown are) =
     ∙ named_with (es ++ (x.0, gates) ∷ []) x gates (found_last es ((x.0, gates) ∷ []) x.0 none ∙ ap (λ b. if b then Some gates else None) (same_relation-refl x.0)) are.wide
 
 -- one use more
-pub naming_on : (p : Posed) (kinds : Kinds) (upper : List ℕ) (old middle new : List Node) (es fs : Named) (x : RelVar × ℕ) → IsSmall p → FitsUse p kinds x → IsNaming p kinds upper old middle es
+pub naming_on : (p : Posed) (kinds : Kinds) (upper : List ℕ) (old middle new : List Node) (es fs : Named) (x : RelVar × ℕ) → IsSmall p → FitsUse p kinds x
+    → IsNaming p kinds upper old middle es
     → Names middle new es fs x.0 x.1 → IsNaming p kinds upper old new fs
 naming_on p kinds upper old middle new es fs x small fits naming (Stays there same kept) =
     subst (λ ns. IsNaming p kinds upper old ns fs) (sym same) (subst (λ ns. IsNaming p kinds upper old middle ns) (sym kept) naming)
 naming_on p kinds upper old middle new es fs x small fits naming (Grows gates none grown are) =
     subst (λ ns. IsNaming p kinds upper old new ns) (sym grown) (record {
-      named = named_more p kinds upper old middle new es x.0 fits.0 (λ j. true) gates small.ints small.classes naming.some naming.longer fits.1 (λ m within j below false_is. absurd (true≢false false_is)) none naming.named inputs;
+      named = named_more p kinds upper old middle new es x.0 fits.0 (λ j. true) gates small.ints small.classes naming.some naming.longer fits.1 (λ m within j below
+          false_is. absurd (true≢false false_is)) none naming.named inputs;
       counted = counted;
       some = of_more middle new 0 are.keeps naming.some;
       longer = omega (arith, naming.longer, ap length are.keeps.behind, length-append middle are.keeps.more);
@@ -88,7 +90,8 @@ none_first before es wanted = record {
   stays = λ x is. is;
 }
 
-pub one_more : (before middle new : List Node) (es fs gs : Named) (wanted : Wanted) (count : ℕ) (x : RelVar × ℕ) → NamesFirst before middle es fs wanted count → slice_get wanted count ≡ Some x → Names middle new fs gs x.0 x.1
+pub one_more : (before middle new : List Node) (es fs gs : Named) (wanted : Wanted) (count : ℕ) (x : RelVar × ℕ) → NamesFirst before middle es fs wanted count
+    → slice_get wanted count ≡ Some x → Names middle new fs gs x.0 x.1
     → NamesFirst before new es gs wanted (count + 1)
 one_more before middle new es fs gs wanted count x first at names = record {
   goes_on = λ p kinds upper old small fits naming. naming_on p kinds upper old middle new fs gs x small (fits count x at) (first.goes_on p kinds upper old small fits naming) names;

@@ -1,12 +1,11 @@
 -- The bits of numbers: each number within a width has as many bits that show it.
-use Rattle.std.proofs.Common.{◌≡◌, ℕ, zero, suc, ◌+◌, ◌-◌, ◌*◌, ◌/◌, ◌%◌, ◌^◌, ◌<◌, ◌≤◌, Bool, true, false, List, [], ◌∷◌, ◌++◌, length, map, refl, sym, subst, ap, ◌∙◌, arith, inl, inr, add-one, ℤ, pos, negsuc, ◌-ℤ◌}
+use Rattle.std.proofs.Common.{◌≡◌, ℕ, zero, suc, ◌+◌, ◌-◌, ◌*◌, ◌/◌, ◌%◌, ◌^◌, ◌<◌, Bool, true, false, [], ◌∷◌, ◌++◌, length, map, refl, subst, ap, ◌∙◌, arith, add-one, ℤ, pos, negsuc, ◌-ℤ◌}
 use Rattle.std.specs.Prelude.{◌==◌, nat_lt, if◌then◌else◌}
 use Rattle.std.specs.List.{range_with_len}
 use Rattle.std.proofs.Math.Nat.{pow-suc}
 use Rattle.std.proofs.lemmas.Bool.{ltb-true, eq-eqb, ne_eqb}
-use Rattle.std.proofs.lemmas.Nat.{pow_pos}
 use Rattle.std.proofs.lemmas.Int.{ints}
-use Rattle.std.proofs.lemmas.List.{length-map, map-append}
+use Rattle.std.proofs.lemmas.List.{map-append}
 use Rattle.std.proofs.lemmas.List.FromFn.{length-map-range_with_len}
 use Rattle.gate_arith.specs.Numbers.{bit, number, signed}
 use Rattle.gate_arith.proofs.Signed.{signed_push}
@@ -72,7 +71,8 @@ signed_of_digits w top z is wide =
     let low = map (digit (low_part top z)) (range_with_len 0 top) in
     let last : w ≡ top + 1 = omega (arith, wide) in
     let lower : map (signed_digit top z) (range_with_len 0 top) ≡ low =
-    map_alike (signed_digit top z) (digit (low_part top z)) 0 top (λ i below. ap (λ b. if b then is_negative z else digit (low_part top z) i) (ne_eqb i top (λ same. absurd (omega (arith, below, same))))) in
+    map_alike (signed_digit top z) (digit (low_part top z)) 0 top (λ i below. ap (λ b. if b then is_negative z else digit (low_part top z) i) (ne_eqb i top (λ same.
+    absurd (omega (arith, below, same))))) in
     let top_bit : signed_digit top z top ≡ is_negative z = ap (λ b. if b then is_negative z else digit (low_part top z) top) (eq-eqb top top refl) in
     ap (λ n. signed (map (signed_digit top z) (range_with_len 0 n))) last
     ∙ ap (λ ns. signed (map (signed_digit top z) ns)) (numbers_last top)

@@ -1,5 +1,5 @@
 -- The uses of sorted sets are by their kinds.
-use Rattle.std.proofs.Common.{◌≡◌, ℕ, zero, suc, ◌+◌, ◌-◌, ◌*◌, ◌<◌, ◌≤◌, Bool, true, false, not, ◌&&◌, List, [], ◌∷◌, ◌++◌, length, map, refl, sym, subst, ap, ◌∙◌, arith, inl, inr, Some}
+use Rattle.std.proofs.Common.{◌≡◌, ℕ, zero, suc, ◌+◌, ◌-◌, ◌*◌, true, not, List, [], ◌∷◌, ◌++◌, length, map, sym, subst, ap, ◌∙◌, arith, inl, inr}
 use Rattle.std.specs.Prelude.{slice_get, if◌then◌else◌}
 use Rattle.std.specs.List.{list_all}
 use Rattle.std.proofs.lemmas.Bool.{and_parts, cases_lt, not-true}
@@ -10,7 +10,7 @@ use Rattle.rel_core.specs.declared.sets.RelExpr.{RelExpr}
 use Rattle.rel_core.specs.declared.sets.RelExpr.TheVariants as s
 use Rattle.rel_core.specs.Uses.{Kinds, Use, AsSet, is_slot, has_use, is_variable, is_spread, is_sorted_set}
 use Rattle.rel_core.proofs.Forms.{sorted_set_var, sorted_set_join, sorted_set_reach}
-use Rattle.rel_gates.specs.Shown.{width_of, gate_count}
+use Rattle.rel_gates.specs.Shown.{width_of}
 use Rattle.rel_gates.specs.Naming.{Wanted, wanted_one, wanted_each, set_uses, FitsUse, FitUses, SetFits}
 use Rattle.rel_gates.proofs.UseForms.{uses_var, uses_nil, uses_object, uses_join, uses_reach}
 
@@ -61,7 +61,8 @@ object_fits p o kinds sorted = subst (FitUses p kinds) (sym (uses_object p o)) (
 pub join_fits : (p : Posed) (e : RelExpr) (r : RelVar) → SetFits p e → SetFits p (s.Join e r)
 join_fits p e r fits kinds sorted =
     let parts = and_parts (is_sorted_set p kinds e) (is_spread p kinds AsSet r) (sym (sorted_set_join p kinds e r) ∙ sorted) in
-    subst (FitUses p kinds) (sym (uses_join p e r)) (fit_both p kinds (set_uses p e) (wanted_each p AsSet r ∷ []) (fits kinds parts.0) (fit_one p kinds (wanted_each p AsSet r) (fits_each p kinds AsSet r parts.1)))
+    subst (FitUses p kinds) (sym (uses_join p e r)) (fit_both p kinds (set_uses p e) (wanted_each p AsSet r ∷ []) (fits kinds parts.0) (fit_one p kinds (wanted_each p
+    AsSet r) (fits_each p kinds AsSet r parts.1)))
 
 pub reach_fits : (p : Posed) (e : RelExpr) (rs : List RelVar) → SetFits p e → SetFits p (s.Reach e rs)
 reach_fits p e rs fits kinds sorted =

@@ -1,16 +1,16 @@
 -- New inputs, one by one.
-use Rattle.std.proofs.Common.{◌≡◌, ℕ, ◌+◌, ◌*◌, ◌<◌, ◌≤◌, Bool, true, false, List, [], ◌∷◌, ◌++◌, length, get_or, All, refl, sym, subst, ap, ◌∙◌, arith, inl, inr, length-append, Some}
-use Rattle.std.specs.Prelude.{◌==◌, if◌then◌else◌, slice_get}
-use Rattle.std.proofs.lemmas.Bool.{cases_lt, cases_Bool, true≢false, eq-eqb, ne_eqb}
+use Rattle.std.proofs.Common.{◌≡◌, ℕ, ◌+◌, ◌*◌, ◌<◌, ◌≤◌, Bool, true, false, List, [], ◌∷◌, ◌++◌, length, get_or, refl, sym, subst, ap, ◌∙◌, arith, inl, inr, length-append}
+use Rattle.std.specs.Prelude.{◌==◌, if◌then◌else◌}
+use Rattle.std.proofs.lemmas.Bool.{cases_lt, true≢false, eq-eqb, ne_eqb}
 use Rattle.std.proofs.lemmas.List.{get_or_append_left, get_or_at}
 use Rattle.std.proofs.lemmas.List.Elements.{All-append, All-cons}
 use Rattle.std.proofs.lemmas.Option.{slice_get_within}
 use Rattle.gate_core.specs.declared.circuit.Node.{Node}
 use Rattle.gate_core.specs.declared.circuit.Node.TheVariants.{Input}
-use Rattle.gate_core.specs.Circuit.{value, node_of, IsOf, Keeps, StandsAt}
-use Rattle.gate_core.proofs.Values.{keeps_same, keeps_twice, keeps_input, all_more, of_more, value_decided, value_input}
+use Rattle.gate_core.specs.Circuit.{value, IsOf, Keeps, StandsAt}
+use Rattle.gate_core.proofs.Values.{keeps_same, keeps_twice, keeps_input, all_more, value_decided, value_input}
 use Rattle.gate_core.proofs.Places.{slice_get-append, slice_get-append_seam}
-use Rattle.rel_gates.specs.Naming.{SameBefore, IsOwn, ShowsAll, AreInputs}
+use Rattle.rel_gates.specs.Naming.{IsOwn, AreInputs}
 
 pub no_inputs : (old new : List Node) (free : ℕ → Bool) → new ≡ old → AreInputs old new 0 free []
 no_inputs old new free is = record {
@@ -34,7 +34,8 @@ changed_else : (inputs : ℕ → Bool) (place q : ℕ) (b : Bool) → q < place 
 changed_else inputs place q b less = rw (ne_eqb q place (λ same. absurd (omega arith))) refl
 
 -- a gate that stood has the truth that it had, where a later input has another
-pub value_unchanged : (old new : List Node) (inputs : ℕ → Bool) (place : ℕ) (b : Bool) (gate : ℕ) → Keeps old new → IsOf old gate → length old ≤ place → value (changed inputs place b) new gate ≡ value inputs old gate
+pub value_unchanged : (old new : List Node) (inputs : ℕ → Bool) (place : ℕ) (b : Bool) (gate : ℕ) → Keeps old new → IsOf old gate → length old ≤ place
+    → value (changed inputs place b) new gate ≡ value inputs old gate
 value_unchanged old new inputs place b gate keeps of behind =
     keeps.values (changed inputs place b) gate of
     ∙ value_decided old gate (changed inputs place b) inputs (λ q within stands. changed_else inputs place q b (omega (arith, of, within, behind)))

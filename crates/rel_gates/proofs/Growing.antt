@@ -1,8 +1,39 @@
 -- One relation more that is named: what stood is shown as before, and each reading is shown at the new relation too.
-use Rattle.std.proofs.Common.{◌≡◌, ℕ, zero, suc, ◌+◌, ◌*◌, ◌<◌, ◌≤◌, Bool, true, false, ◌&&◌, List, [], ◌∷◌, ◌++◌, length, map, get_or, All, refl, sym, subst, ap, ◌∙◌, arith, inl, inr, ℤ, pos, Option, Some, None, is_some}
+use Rattle.std.proofs.Common.{
+  ◌≡◌,
+  ℕ,
+  ◌+◌,
+  ◌*◌,
+  ◌<◌,
+  ◌≤◌,
+  Bool,
+  true,
+  false,
+  ◌&&◌,
+  List,
+  [],
+  ◌∷◌,
+  ◌++◌,
+  length,
+  map,
+  get_or,
+  All,
+  refl,
+  sym,
+  subst,
+  ap,
+  ◌∙◌,
+  arith,
+  inl,
+  inr,
+  pos,
+  Option,
+  Some,
+  None,
+  is_some,
+}
 use Rattle.std.specs.Prelude.{◌==◌, if◌then◌else◌, IsTrue}
 use Rattle.std.specs.List.{range_with_len}
-use Rattle.std.specs.Option.{option_map_or}
 use Rattle.std.proofs.lemmas.Bool.{false≢true, cases_Bool, cases_lt, and_parts, and_from, eqb-true, eq-eqb}
 use Rattle.std.proofs.lemmas.List.{get_or_past}
 use Rattle.gate_arith.specs.Numbers.{number, signed}
@@ -15,10 +46,10 @@ use Rattle.rel_core.specs.declared.relation.RelVar.{RelVar}
 use Rattle.rel_core.specs.declared.relation.What.{What}
 use Rattle.rel_core.specs.declared.relation.What.TheVariants as what
 use Rattle.rel_core.specs.Reading.{Reading, same_what, same_relation, is_reference}
-use Rattle.rel_core.specs.Uses.{Kinds, Use, AsSet, AsNumber, AsFlag, AsClass, has_use, has_place, IsOf as IsOfProblem}
-use Rattle.rel_gates.specs.Shown.{Named, gates_of, is_named, gate_count, class_bits, place_of, in_row, refs_shown, number_shown, flag_shown, reading_shown, AgreeAt, Agrees}
+use Rattle.rel_core.specs.Uses.{Kinds, Use, AsSet, AsNumber, AsFlag, AsClass, has_use, has_place}
+use Rattle.rel_gates.specs.Shown.{Named, gates_of, is_named, gate_count, class_bits, place_of, refs_shown, number_shown, flag_shown, reading_shown, AgreeAt, Agrees}
 use Rattle.rel_gates.specs.Naming.{SameBefore, ShowsAll, AreInputs, IsWithin, IsShown, AreNamed}
-use Rattle.rel_gates.proofs.Wanted.{wanted, AreWanted, refs_agree, number_agrees, flag_agrees}
+use Rattle.rel_gates.proofs.Wanted.{wanted, refs_agree, number_agrees, flag_agrees}
 
 -- ## relations that are one
 
@@ -77,32 +108,43 @@ found_last (e ∷ es) more r none =
 abbrev pub SameTruth : (ℕ → Bool) → (ℕ → Bool) → List ℕ → Type 0
 SameTruth truth other gates = (k : ℕ) → truth (get_or gates k 0) ≡ other (get_or gates k 0)
 
-refs_same : (p : Posed) (kinds : Kinds) (truth other : ℕ → Bool) (gates : List ℕ) (r : RelVar) (o : ℕ) (v : Value) → SameTruth truth other gates → refs_shown p kinds truth (Some gates) r o v ≡ refs_shown p kinds other (Some gates) r o v
+refs_same : (p : Posed) (kinds : Kinds) (truth other : ℕ → Bool) (gates : List ℕ) (r : RelVar) (o : ℕ) (v : Value) → SameTruth truth other gates
+    → refs_shown p kinds truth (Some gates) r o v ≡ refs_shown p kinds other (Some gates) r o v
 refs_same p kinds truth other gates r o v same =
     ap (λ b. has_place p kinds AsSet r o && is_reference p.scope.objects v && b) (same (o * (p.scope.objects + 1) + place_of v))
 
-number_same : (p : Posed) (kinds : Kinds) (truth other : ℕ → Bool) (gates : List ℕ) (r : RelVar) (o : ℕ) → SameTruth truth other gates → number_shown p kinds truth (Some gates) r o ≡ number_shown p kinds other (Some gates) r o
+number_same : (p : Posed) (kinds : Kinds) (truth other : ℕ → Bool) (gates : List ℕ) (r : RelVar) (o : ℕ) → SameTruth truth other gates
+    → number_shown p kinds truth (Some gates) r o ≡ number_shown p kinds other (Some gates) r o
 number_same p kinds truth other gates r o same =
     (λ j. if has_place p kinds AsNumber r o then signed (map (λ i. same (o * p.scope.ints + i) j) (range_with_len 0 p.scope.ints))
     else (if has_place p kinds AsClass r o then pos (number (map (λ i. same (o * class_bits p + i) j) (range_with_len 0 (class_bits p)))) else pos 0))
 
-flag_same : (p : Posed) (kinds : Kinds) (truth other : ℕ → Bool) (gates : List ℕ) (r : RelVar) (o : ℕ) → SameTruth truth other gates → flag_shown p kinds truth (Some gates) r o ≡ flag_shown p kinds other (Some gates) r o
+flag_same : (p : Posed) (kinds : Kinds) (truth other : ℕ → Bool) (gates : List ℕ) (r : RelVar) (o : ℕ) → SameTruth truth other gates
+    → flag_shown p kinds truth (Some gates) r o ≡ flag_shown p kinds other (Some gates) r o
 flag_same p kinds truth other gates r o same = ap (λ b. has_place p kinds AsFlag r o && b) (same (o * 1 + 0))
 
 -- a reading agrees at a relation with gates
 abbrev pub AgreesWith : Posed → Kinds → (ℕ → Bool) → Option (List ℕ) → Reading → RelVar → Type 0
 AgreesWith p kinds truth found m r =
-    ((o : ℕ) (v : Value) → m.refs r o v ≡ refs_shown p kinds truth found r o v) × ((o : ℕ) → m.number r o ≡ number_shown p kinds truth found r o) × ((o : ℕ) → m.flag r o ≡ flag_shown p kinds truth found r o)
+    ((o : ℕ) (v : Value) → m.refs r o v ≡ refs_shown p kinds truth found r o v) × ((o : ℕ) → m.number r o ≡ number_shown p kinds truth found r o) × ((o : ℕ)
+    → m.flag r o ≡ flag_shown p kinds truth found r o)
 
-pub agree_from : (p : Posed) (kinds : Kinds) (truth : ℕ → Bool) (es : Named) (m : Reading) (r : RelVar) → AgreesWith p kinds truth (gates_of es r) m r → AgreeAt m (reading_shown p kinds truth es) r
+pub agree_from : (p : Posed) (kinds : Kinds) (truth : ℕ → Bool) (es : Named) (m : Reading) (r : RelVar) → AgreesWith p kinds truth (gates_of es r) m r
+    → AgreeAt m (reading_shown p kinds truth es) r
 agree_from p kinds truth es m r with_gates = record { refs = with_gates.0; number = with_gates.1; flag = with_gates.2 }
 
-pub agree_to : (p : Posed) (kinds : Kinds) (truth : ℕ → Bool) (es : Named) (m : Reading) (r : RelVar) → AgreeAt m (reading_shown p kinds truth es) r → AgreesWith p kinds truth (gates_of es r) m r
+pub agree_to : (p : Posed) (kinds : Kinds) (truth : ℕ → Bool) (es : Named) (m : Reading) (r : RelVar) → AgreeAt m (reading_shown p kinds truth es) r
+    → AgreesWith p kinds truth (gates_of es r) m r
 agree_to p kinds truth es m r agree = (agree.refs, agree.number, agree.flag)
 
-pub agree_kept : (p : Posed) (kinds : Kinds) (truth other : ℕ → Bool) (gates : List ℕ) (m : Reading) (r : RelVar) → SameTruth other truth gates → AgreesWith p kinds truth (Some gates) m r → AgreesWith p kinds other (Some gates) m r
-agree_kept p kinds truth other gates m r same agree =
-    (λ o v. agree.0 o v ∙ sym (refs_same p kinds other truth gates r o v same), λ o. agree.1 o ∙ sym (number_same p kinds other truth gates r o same), λ o. agree.2 o ∙ sym (flag_same p kinds other truth gates r o same))
+pub agree_kept : (p : Posed) (kinds : Kinds) (truth other : ℕ → Bool) (gates : List ℕ) (m : Reading) (r : RelVar) → SameTruth other truth gates
+    → AgreesWith p kinds truth (Some gates) m r → AgreesWith p kinds other (Some gates) m r
+agree_kept p kinds truth other gates m r same agree = (
+  λ o v. agree.0 o v ∙ sym (refs_same p kinds other truth gates r o v same),
+  λ o. agree.1 o ∙ sym (number_same p kinds other truth gates r o same),
+  λ o. agree.2 o
+      ∙ sym (flag_same p kinds other truth gates r o same),
+)
 
 -- ## one relation more
 
@@ -119,8 +161,10 @@ stands_same middle new before inputs gates keeps some of same k =
 abbrev pub IsFree : Posed → Kinds → List ℕ → RelVar → Use → (ℕ → Bool) → Type 0
 IsFree p kinds upper r u free = (m : Reading) → IsWithin p kinds upper m → (j : ℕ) → j < gate_count p u r → free j ≡ false → wanted p m r u j ≡ false
 
-pub named_more : (p : Posed) (kinds : Kinds) (upper : List ℕ) (old middle new : List Node) (es : Named) (r : RelVar) (u : Use) (free : ℕ → Bool) (gates : List ℕ) → 2 ≤ p.scope.ints → length p.unit.classes ≤ 16
-    → IsOf middle 0 → length old ≤ length middle → has_use p kinds u r.what ≡ true → IsFree p kinds upper r u free → gates_of es r ≡ None → AreNamed p kinds upper old middle es → AreInputs middle new (gate_count p u r) free gates
+pub named_more : (p : Posed) (kinds : Kinds) (upper : List ℕ) (old middle new : List Node) (es : Named) (r : RelVar) (u : Use) (free : ℕ → Bool) (gates : List ℕ) → 2 ≤ p.scope.ints
+    → length p.unit.classes ≤ 16
+    → IsOf middle 0 → length old ≤ length middle → has_use p kinds u r.what ≡ true → IsFree p kinds upper r u free → gates_of es r ≡ None → AreNamed p kinds upper old middle es
+    → AreInputs middle new (gate_count p u r) free gates
     → AreNamed p kinds upper old new (es ++ (r, gates) ∷ [])
 named_more p kinds upper old middle new es r u free gates wide few some longer its lacking none named are = record { of = of; shown = shown }
   where
@@ -165,9 +209,12 @@ named_more p kinds upper old middle new es r u free gates wide few some longer i
               | inl same ↦
                   let there_are : gates_of grown s ≡ Some gates = found_last es ((r, gates) ∷ []) s there ∙ ap (λ b. if b then Some gates else None) same in
                   subst (λ found. AgreesWith p kinds (value last.inputs new) found m s) (sym there_are)
-                  (subst (λ t. AgreesWith p kinds (value last.inputs new) (Some gates) m t) (same_relation-is r s same)
-                  (refs_agree p kinds m r u (value last.inputs new) gates within.of_problem its last.values, number_agrees p kinds m r u (value last.inputs new) gates within.of_problem wide few its last.values,
-                  flag_agrees p kinds m r u (value last.inputs new) gates within.of_problem its last.values))
+                  (subst (λ t. AgreesWith p kinds (value last.inputs new) (Some gates) m t) (same_relation-is r s same) (
+                    refs_agree p kinds m r u (value last.inputs new) gates within.of_problem its last.values,
+                    number_agrees p kinds m r u (value last.inputs new) gates
+                        within.of_problem wide few its last.values,
+                    flag_agrees p kinds m r u (value last.inputs new) gates within.of_problem its last.values,
+                  ))
               | inr other ↦
                   let absent : gates_of grown s ≡ None = found_last es ((r, gates) ∷ []) s there ∙ ap (λ b. if b then Some gates else None) other in
                   absurd (false≢true (sym (ap is_some absent) ∙ is))

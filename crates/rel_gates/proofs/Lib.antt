@@ -6,5 +6,6 @@ pub mod UseForms
 pub mod Fitting
 pub mod OfSets
 pub mod OfGraphs
+pub mod Inclusions
 pub mod AllNamed
 pub mod Told

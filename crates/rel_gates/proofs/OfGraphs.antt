@@ -1,8 +1,8 @@
 -- The edges of relations, and what is reached along them.
-use Rattle.std.proofs.Common.{◌≡◌, ℕ, zero, suc, ◌+◌, ◌-◌, ◌*◌, ◌<◌, ◌≤◌, Bool, true, false, not, ◌&&◌, ◌||◌, List, [], ◌∷◌, ◌++◌, length, get_or, All, refl, sym, subst, ap, ◌∙◌, arith, inl, inr, add-one, Option, Some, None, is_some}
-use Rattle.std.specs.Prelude.{◌==◌, nat_lt, IsTrue}
-use Rattle.std.specs.List.{list_any, list_all, range_with_len}
-use Rattle.std.proofs.lemmas.Bool.{false≢true, and_parts, lt-ltb}
+use Rattle.std.proofs.Common.{◌≡◌, ℕ, zero, suc, ◌+◌, ◌-◌, ◌<◌, Bool, true, false, ◌&&◌, ◌||◌, List, [], ◌∷◌, ◌++◌, get_or, refl, sym, subst, ap, ◌∙◌, arith, add-one, Some, is_some}
+use Rattle.std.specs.Prelude.{nat_lt, IsTrue}
+use Rattle.std.specs.List.{list_all}
+use Rattle.std.proofs.lemmas.Bool.{and_parts, lt-ltb}
 use Rattle.std.proofs.lemmas.List.Folds.{list_any-append, list_all-append}
 use Rattle.gate_core.specs.declared.circuit.Node.{Node}
 use Rattle.gate_core.specs.Circuit.{value, IsOf, Keeps}
@@ -11,7 +11,7 @@ use Rattle.gate_sets.specs.Lists.{AreTruths, AreRows}
 use Rattle.gate_sets.specs.Shapes.{has_object as has_gate, led_edges, edges, reached_set}
 use Rattle.heap_core.specs.Closure.{closure}
 use Rattle.heap_core.proofs.Closure.{rounds_agree_below}
-use Rattle.heap_core.specs.declared.value.Value.TheVariants.{Null, Obj}
+use Rattle.heap_core.specs.declared.value.Value.TheVariants.{Obj}
 use Rattle.heap_core.specs.Posed.{Posed}
 use Rattle.rel_core.specs.declared.relation.RelVar.{RelVar}
 use Rattle.rel_core.specs.declared.sets.RelExpr.{RelExpr}
@@ -39,7 +39,8 @@ and_all : (b : Bool) → (b && true) ≡ b
 and_all true = refl
 and_all false = refl
 
-pub edges_more : (p : Posed) (es : Named) (middle new : List Node) (rs : List RelVar) (r : RelVar) (graph rows next : List ℕ) → AreEdges p es middle rs graph → gates_of es r ≡ Some rows → Stand middle es → IsOf middle 0 → Keeps middle new
+pub edges_more : (p : Posed) (es : Named) (middle new : List Node) (rs : List RelVar) (r : RelVar) (graph rows next : List ℕ) → AreEdges p es middle rs graph
+    → gates_of es r ≡ Some rows → Stand middle es → IsOf middle 0 → Keeps middle new
     → AreRows new p.scope.objects p.scope.objects (λ inputs q o. led_edges p.scope.objects middle graph rows inputs q o) next → AreEdges p es new (rs ++ r ∷ []) next
 edges_more p es middle new rs r graph rows next before found stand some keeps are = record { of = are.of; long = are.long; values = values }
   where
@@ -60,7 +61,8 @@ edges_more p es middle new rs r graph rows next before found stand some keeps ar
         ∙ ap (λ b. leads m rs q o || b) (edge ∙ sym (or_none (m.refs r q (Obj o))))
         ∙ sym (list_any-append (λ t. m.refs t q (Obj o)) rs (r ∷ []))
 
-pub reached_members : (p : Posed) (es : Named) (old middle new : List Node) (e : RelExpr) (rs : List RelVar) (set graph places : List ℕ) → AreSet p es old e set → AreEdges p es middle rs graph → Stand old es → IsOf old 0 → Keeps old middle → Keeps middle new
+pub reached_members : (p : Posed) (es : Named) (old middle new : List Node) (e : RelExpr) (rs : List RelVar) (set graph places : List ℕ) → AreSet p es old e set
+    → AreEdges p es middle rs graph → Stand old es → IsOf old 0 → Keeps old middle → Keeps middle new
     → AreTruths new (p.scope.objects + 1) (λ inputs i. reached_set p.scope.objects middle set graph inputs i) places → AreSet p es new (s.Reach e rs) places
 reached_members p es old middle new e rs set graph places are edges_are stand some grown keeps truths = record { of = truths.of; wide = truths.wide; values = values }
   where
@@ -88,7 +90,8 @@ reached_members p es old middle new e rs set graph places are edges_are stand so
         whole : (o : ℕ) → o < p.scope.objects
             → closure (edges p.scope.objects middle graph inputs) p.scope.objects (has_gate (λ k. value inputs middle (get_or set k 0))) o ≡ reached_from m rs (set_of e m) o
         whole o below =
-            rounds_agree_below p.scope.objects (edges p.scope.objects middle graph inputs) (leads m rs) p.scope.objects (has_gate (λ k. value inputs middle (get_or set k 0))) (has_object (set_of e m))
+            rounds_agree_below p.scope.objects (edges p.scope.objects middle graph inputs) (leads m rs) p.scope.objects (has_gate (λ k. value inputs middle (get_or set k
+            0))) (has_object (set_of e m))
             (λ q t in_q in_t. edges_are.values kinds m inputs parts.1 later q t in_q in_t) member o below
             ∙ ap (λ n. closure (leads m rs) n (has_object (set_of e m)) o) (sym seen.of_problem.objects)
 

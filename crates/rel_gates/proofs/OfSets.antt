@@ -1,33 +1,63 @@
 -- The gates of sets under the readings that the inputs show.
-use Rattle.std.proofs.Common.{◌≡◌, ℕ, zero, suc, ◌+◌, ◌*◌, ◌<◌, ◌≤◌, Bool, true, false, not, ◌&&◌, ◌||◌, List, [], ◌∷◌, length, get_or, All, refl, sym, subst, ap, ◌∙◌, arith, inl, inr, add-one, Option, Some, None, is_some}
+use Rattle.std.proofs.Common.{
+  ◌≡◌,
+  ℕ,
+  zero,
+  suc,
+  ◌+◌,
+  ◌*◌,
+  ◌<◌,
+  ◌≤◌,
+  Bool,
+  true,
+  false,
+  not,
+  ◌&&◌,
+  ◌||◌,
+  List,
+  length,
+  get_or,
+  refl,
+  sym,
+  subst,
+  ap,
+  ◌∙◌,
+  arith,
+  inl,
+  inr,
+  add-one,
+  Option,
+  Some,
+  None,
+  is_some,
+}
 use Rattle.std.specs.Prelude.{◌==◌, nat_lt, IsTrue}
-use Rattle.std.specs.List.{list_any, list_all, range_with_len}
+use Rattle.std.specs.List.{list_any}
 use Rattle.std.specs.Option.{option_map_or}
 use Rattle.std.proofs.lemmas.Bool.{false≢true, and_parts, and_from, or_left, or_right, lt-ltb, eq-eqb, eqb-true, ne_eqb, cases_eq}
 use Rattle.gate_core.specs.declared.circuit.Node.{Node}
 use Rattle.gate_core.specs.Circuit.{value, IsOf, Keeps}
 use Rattle.gate_sets.specs.Lists.{AreTruths}
-use Rattle.gate_sets.specs.Shapes.{has_object as has_gate, any_row, joined_set}
+use Rattle.gate_sets.specs.Shapes.{has_object as has_gate, joined_set}
 use Rattle.gate_sets.proofs.Standing.{any_row_alike}
-use Rattle.heap_core.specs.declared.value.Value.{Value}
-use Rattle.heap_core.specs.declared.value.Value.TheVariants.{Null, Obj}
 use Rattle.heap_core.specs.Posed.{Posed}
 use Rattle.heap_core.specs.Outcomes.{is_null, is_object}
 use Rattle.rel_core.specs.declared.relation.RelVar.{RelVar}
 use Rattle.rel_core.specs.declared.sets.RelExpr.{RelExpr}
 use Rattle.rel_core.specs.declared.sets.RelExpr.TheVariants as s
 use Rattle.rel_core.specs.Reading.{Reading, is_reference, numbers_below}
-use Rattle.rel_core.specs.Meaning.{ValueSet, has_object, joined, set_of}
-use Rattle.rel_core.specs.Uses.{Kinds, Use, AsSet, is_slot, has_use, is_variable, is_spread, has_place, is_sorted_set, IsOf as IsOfProblem}
+use Rattle.rel_core.specs.Meaning.{ValueSet, has_object, set_of}
+use Rattle.rel_core.specs.Uses.{Kinds, Use, AsSet, is_slot, has_use, is_variable, is_spread, has_place, is_sorted_set}
 use Rattle.rel_core.proofs.Forms.{set_var, set_nil, set_object, set_join, sorted_set_var, sorted_set_join}
-use Rattle.rel_gates.specs.Shown.{Named, gates_of, is_named, place_of, in_row, refs_shown, reading_shown, Agrees}
+use Rattle.rel_gates.specs.Shown.{Named, gates_of, is_named, place_of, in_row, refs_shown, Agrees}
 use Rattle.rel_gates.specs.Naming.{is_named_for}
 use Rattle.rel_gates.specs.Meant.{Stand, reference_at, IsSeen, AreSet}
 use Rattle.rel_gates.proofs.Growing.{AgreesWith, stands_same, agree_from, agree_to, agree_kept}
 
 -- ## what is seen when the circuit has grown was seen before
 
-pub seen_before : (p : Posed) (kinds : Kinds) (old new : List Node) (es : Named) (inputs : ℕ → Bool) (m : Reading) → Keeps old new → IsOf old 0 → Stand old es → IsSeen p kinds new es inputs m → IsSeen p kinds old es inputs m
+pub seen_before : (p : Posed) (kinds : Kinds) (old new : List Node) (es : Named) (inputs : ℕ → Bool) (m : Reading) → Keeps old new → IsOf old 0 → Stand old es
+    → IsSeen p kinds new es inputs m → IsSeen p kinds old es inputs m
 seen_before p kinds old new es inputs m keeps some stand seen = record { of_problem = seen.of_problem; agrees = agrees }
   where
     at : (r : RelVar) (found : Option (List ℕ)) → gates_of es r ≡ found → IsTrue (is_named es r) → AgreesWith p kinds (value inputs old) found m r
@@ -50,7 +80,8 @@ is_reference_at objects zero within = refl
 is_reference_at objects (suc o) within = lt-ltb o objects (omega (arith, within))
 
 -- the truth of a gate of a relation, at a place that the relation can have
-pub refs_read : (p : Posed) (kinds : Kinds) (m : Reading) (r : RelVar) (truth : ℕ → Bool) (rows : List ℕ) (o i : ℕ) → m.refs r o (reference_at i) ≡ refs_shown p kinds truth (Some rows) r o (reference_at i)
+pub refs_read : (p : Posed) (kinds : Kinds) (m : Reading) (r : RelVar) (truth : ℕ → Bool) (rows : List ℕ) (o i : ℕ)
+    → m.refs r o (reference_at i) ≡ refs_shown p kinds truth (Some rows) r o (reference_at i)
     → has_place p kinds AsSet r o ≡ true → i < p.scope.objects + 1 → in_row truth (p.scope.objects + 1) rows o i ≡ m.refs r o (reference_at i)
 refs_read p kinds m r truth rows o i is place within =
     let row = λ (k : ℕ). in_row truth (p.scope.objects + 1) rows o k in
@@ -71,7 +102,8 @@ variable_place p kinds u r is some =
 
 -- ## joins
 
-pub join_members : (p : Posed) (es : Named) (middle new : List Node) (e : RelExpr) (r : RelVar) (set rows places : List ℕ) → AreSet p es middle e set → gates_of es r ≡ Some rows → Stand middle es → IsOf middle 0 → Keeps middle new
+pub join_members : (p : Posed) (es : Named) (middle new : List Node) (e : RelExpr) (r : RelVar) (set rows places : List ℕ) → AreSet p es middle e set → gates_of es r ≡ Some rows
+    → Stand middle es → IsOf middle 0 → Keeps middle new
     → AreTruths new (p.scope.objects + 1) (λ inputs i. joined_set p.scope.objects middle set rows inputs i) places → AreSet p es new (s.Join e r) places
 join_members p es middle new e r set rows places are found stand some keeps truths = record { of = truths.of; wide = truths.wide; values = values }
   where
@@ -82,17 +114,20 @@ join_members p es middle new e r set rows places are found stand some keeps trut
         let parts = and_parts (is_sorted_set p kinds e) (is_spread p kinds AsSet r) (sym (sorted_set_join p kinds e r) ∙ sorted) in
         let agree = (agree_to p kinds (value inputs middle) es m r (before.agrees r (ap is_some found))).0 in
         truths.values inputs i within
-        ∙ any_row_alike p.scope.objects (has_gate (λ k. value inputs middle (get_or set k 0))) (has_object (set_of e m)) (λ o k. value inputs middle (get_or rows (o * (p.scope.objects + 1) + k) 0)) (λ o k. m.refs r o (reference_at k)) i
+        ∙ any_row_alike p.scope.objects (has_gate (λ k. value inputs middle (get_or set k 0))) (has_object (set_of e m)) (λ o k. value inputs middle (get_or rows (o *
+        (p.scope.objects + 1) + k) 0)) (λ o k. m.refs r o (reference_at k)) i
         (λ o below. are.values kinds m inputs parts.0 before (o + 1) (omega (arith, below)) ∙ ap (λ k. set_of e m (reference_at k)) (add-one o))
         (λ o below.
-        refs_read p kinds m r (value inputs middle) rows o i (subst (λ gs. m.refs r o (reference_at i) ≡ refs_shown p kinds (value inputs middle) gs r o (reference_at i)) found (agree o (reference_at i)))
+        refs_read p kinds m r (value inputs middle) rows o i (subst (λ gs. m.refs r o (reference_at i) ≡ refs_shown p kinds (value inputs middle) gs r o (reference_at i))
+        found (agree o (reference_at i)))
         (spread_place p kinds AsSet r o parts.1 below) within)
         ∙ ap (λ n. list_any (λ o. has_object (set_of e m) o && m.refs r o (reference_at i)) (numbers_below n)) (sym before.of_problem.objects)
         ∙ sym (ap (λ (t : ValueSet). t (reference_at i)) (set_join e r m))
 
 -- ## variables, and one reference alone
 
-pub variable_members : (p : Posed) (es : Named) (nodes : List Node) (r : RelVar) (rows : List ℕ) → gates_of es r ≡ Some rows → length rows ≡ p.scope.objects + 1 → 1 ≤ p.scope.objects → Stand nodes es → AreSet p es nodes (s.Var r) rows
+pub variable_members : (p : Posed) (es : Named) (nodes : List Node) (r : RelVar) (rows : List ℕ) → gates_of es r ≡ Some rows → length rows ≡ p.scope.objects + 1
+    → 1 ≤ p.scope.objects → Stand nodes es → AreSet p es nodes (s.Var r) rows
 variable_members p es nodes r rows found wide some stand = record {
   of = stand r rows found;
   wide = wide;
@@ -101,7 +136,8 @@ variable_members p es nodes r rows found wide some stand = record {
       let agree = (agree_to p kinds (value inputs nodes) es m r (seen.agrees r (ap is_some found))).0 in
       let first : i ≡ 0 * (p.scope.objects + 1) + i = omega arith in
       ap (λ k. value inputs nodes (get_or rows k 0)) first
-      ∙ refs_read p kinds m r (value inputs nodes) rows 0 i (subst (λ gs. m.refs r 0 (reference_at i) ≡ refs_shown p kinds (value inputs nodes) gs r 0 (reference_at i)) found (agree 0 (reference_at i)))
+      ∙ refs_read p kinds m r (value inputs nodes) rows 0 i (subst (λ gs. m.refs r 0 (reference_at i) ≡ refs_shown p kinds (value inputs nodes) gs r 0 (reference_at i))
+      found (agree 0 (reference_at i)))
       (variable_place p kinds AsSet r is some) within
       ∙ sym (ap (λ (t : ValueSet). t (reference_at i)) (set_var r m));
 }
@@ -125,7 +161,8 @@ null_members p es nodes places truths = record {
   values = λ kinds m inputs sorted seen i within. truths.values inputs i within ∙ null_at i ∙ sym (ap (λ (t : ValueSet). t (reference_at i)) (set_nil m));
 }
 
-pub object_members : (p : Posed) (es : Named) (nodes : List Node) (q : ℕ) (places : List ℕ) → AreTruths nodes (p.scope.objects + 1) (λ inputs i. i == q + 1) places → AreSet p es nodes (s.Object q) places
+pub object_members : (p : Posed) (es : Named) (nodes : List Node) (q : ℕ) (places : List ℕ) → AreTruths nodes (p.scope.objects + 1) (λ inputs i. i == q + 1) places
+    → AreSet p es nodes (s.Object q) places
 object_members p es nodes q places truths = record {
   of = truths.of;
   wide = truths.wide;

@@ -1,13 +1,48 @@
 -- What is shown is a reading of the problem, where no class number is too large.
-use Rattle.std.proofs.Common.{◌≡◌, ℕ, zero, suc, ◌+◌, ◌-◌, ◌*◌, ◌^◌, ◌<◌, ◌≤◌, Bool, true, false, ◌&&◌, ◌||◌, List, [], ◌∷◌, ◌++◌, length, map, refl, sym, subst, ap, ◌∙◌, arith, inl, inr, ℤ, pos, ◌-ℤ◌, ◌≤ℤ◌, ◌<ℤ◌, Option, Some, None}
-use Rattle.std.specs.Prelude.{nat_lt, if◌then◌else◌, IsTrue}
+use Rattle.std.proofs.Common.{
+  ◌≡◌,
+  ℕ,
+  ◌+◌,
+  ◌-◌,
+  ◌*◌,
+  ◌^◌,
+  ◌<◌,
+  ◌≤◌,
+  Bool,
+  true,
+  false,
+  ◌&&◌,
+  ◌||◌,
+  List,
+  [],
+  ◌∷◌,
+  ◌++◌,
+  length,
+  map,
+  refl,
+  sym,
+  subst,
+  ap,
+  ◌∙◌,
+  arith,
+  inl,
+  inr,
+  ℤ,
+  pos,
+  ◌-ℤ◌,
+  ◌≤ℤ◌,
+  ◌<ℤ◌,
+  Option,
+  Some,
+  None,
+}
+use Rattle.std.specs.Prelude.{if◌then◌else◌}
 use Rattle.std.specs.List.{range_with_len}
 use Rattle.std.specs.Ordering.{int_eq}
 use Rattle.std.specs.Option.{option_map_or}
 use Rattle.std.proofs.lemmas.Bool.{cases_Bool, and_parts, and_from, or_left, or_right, lt-ltb}
 use Rattle.std.proofs.lemmas.Bool.Decides.{Decides-int_eq}
 use Rattle.std.proofs.lemmas.Int.{ints}
-use Rattle.std.proofs.lemmas.Nat.{pow_pos}
 use Rattle.std.proofs.lemmas.List.{map-append}
 use Rattle.std.proofs.lemmas.List.FromFn.{length-map-range_with_len}
 use Rattle.gate_arith.specs.Numbers.{bit, number, signed}
@@ -42,7 +77,8 @@ signed_within w f some =
     let small : number low < 2 ^ top = subst (λ n. number low < 2 ^ n) wide (number_below low) in
     let is : signed (map f (range_with_len 0 w)) ≡ (pos (number low) -ℤ pos (2 ^ top * bit (f top))) =
     ap signed split ∙ signed_push low (f top) ∙ ap (λ n. pos (number low) -ℤ pos (2 ^ n * bit (f top))) wide in
-    ap (in_bits w) is ∙ within_true w (2 ^ top) (pos (number low) -ℤ pos (2 ^ top * bit (f top))) refl (low_bound (number low) (2 ^ top) (f top) small) (high_bound (number low) (2 ^ top) (f top) small)
+    ap (in_bits w) is ∙ within_true w (2 ^ top) (pos (number low) -ℤ pos (2 ^ top * bit (f top))) refl (low_bound (number low) (2 ^ top) (f top) small) (high_bound
+    (number low) (2 ^ top) (f top) small)
 
 -- ## the reading that is shown
 
@@ -68,7 +104,8 @@ pub shown_of_problem : (p : Posed) (kinds : Kinds) (truth : ℕ → Bool) (es : 
 shown_of_problem p kinds truth es small fit = record {
   objects = refl;
   ints = refl;
-  refs = λ r o v is. (and_parts (has_place p kinds AsSet r o && is_reference p.scope.objects v) (option_map_or (λ gates. in_row truth (p.scope.objects + 1) gates o (place_of v)) (gates_of es r) false) is).0;
+  refs = λ r o v is. (and_parts (has_place p kinds AsSet r o && is_reference p.scope.objects v) (option_map_or (λ gates. in_row truth (p.scope.objects + 1) gates o
+      (place_of v)) (gates_of es r) false) is).0;
   numbers = λ r o. numbers r o (gates_of es r) refl;
   flags = λ r o is. (and_parts (has_place p kinds AsFlag r o) (option_map_or (λ gates. in_row truth 1 gates o 0) (gates_of es r) false) is).0;
 }
@@ -93,8 +130,10 @@ shown_of_problem p kinds truth es small fit = record {
           where
             of_number : (g : Option (List ℕ)) → has_place p kinds AsNumber r o ≡ true → can p kinds r o (option_map_or (λ gates. signed (row_bits truth p.scope.ints gates o)) g (pos 0))
             of_number None at = can_zero p kinds r o
-            of_number (Some gates) at = can_number p kinds r o (signed (row_bits truth p.scope.ints gates o)) at (signed_within p.scope.ints (in_row truth p.scope.ints gates o) (omega (arith, small.ints)))
+            of_number (Some gates) at = can_number p kinds r o (signed (row_bits truth p.scope.ints gates o)) at (signed_within p.scope.ints (in_row truth p.scope.ints
+                gates o) (omega (arith, small.ints)))
 
-            of_class : (g : Option (List ℕ)) → gates_of es r ≡ g → has_place p kinds AsClass r o ≡ true → can p kinds r o (option_map_or (λ gates. pos (number (row_bits truth (class_bits p) gates o))) g (pos 0))
+            of_class : (g : Option (List ℕ)) → gates_of es r ≡ g → has_place p kinds AsClass r o ≡ true
+                → can p kinds r o (option_map_or (λ gates. pos (number (row_bits truth (class_bits p) gates o))) g (pos 0))
             of_class None at place = can_zero p kinds r o
             of_class (Some gates) at place = can_class p kinds r o (number (row_bits truth (class_bits p) gates o)) place (fit r gates at o place)

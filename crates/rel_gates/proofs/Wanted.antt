@@ -1,5 +1,43 @@
 -- The truth values of a relation's gates under which they show what a reading has.
-use Rattle.std.proofs.Common.{◌≡◌, ℕ, zero, suc, ◌+◌, ◌-◌, ◌*◌, ◌/◌, ◌%◌, ◌^◌, ◌<◌, ◌≤◌, Bool, true, false, not, ◌&&◌, ◌||◌, List, [], ◌∷◌, length, map, get_or, refl, sym, subst, ap, ◌∙◌, arith, inl, inr, add-one, ℤ, pos, negsuc, Option, Some, None}
+use Rattle.std.proofs.Common.{
+  ◌≡◌,
+  ℕ,
+  zero,
+  suc,
+  ◌+◌,
+  ◌-◌,
+  ◌*◌,
+  ◌/◌,
+  ◌%◌,
+  ◌^◌,
+  ◌<◌,
+  ◌≤◌,
+  Bool,
+  true,
+  false,
+  not,
+  ◌&&◌,
+  ◌||◌,
+  List,
+  length,
+  map,
+  get_or,
+  refl,
+  sym,
+  subst,
+  ap,
+  ◌∙◌,
+  arith,
+  inl,
+  inr,
+  add-one,
+  ℤ,
+  pos,
+  negsuc,
+  Option,
+  Some,
+  None,
+}
 use Rattle.std.specs.Prelude.{◌==◌, nat_lt, if◌then◌else◌, count_by}
 use Rattle.std.specs.List.{range_with_len}
 use Rattle.std.specs.Ordering.{int_eq}
@@ -51,7 +89,8 @@ one_use p kinds w u t is also = one_of (use_of p kinds w) u t is also
 -- ## places
 
 pub use_at : (p : Posed) (kinds : Kinds) (u : Use) (r : RelVar) (o : ℕ) → has_place p kinds u r o ≡ true → has_use p kinds u r.what ≡ true
-use_at p kinds u r o is = (and_parts (has_use p kinds u r.what) (nat_lt o p.scope.objects) (and_parts (has_use p kinds u r.what && nat_lt o p.scope.objects) (not (is_slot r.what) || o == 0) is).0).0
+use_at p kinds u r o is = (and_parts (has_use p kinds u r.what) (nat_lt o p.scope.objects) (and_parts (has_use p kinds u r.what && nat_lt o p.scope.objects) (not (is_slot
+    r.what) || o == 0) is).0).0
 
 row_below : (slot : Bool) (o objects : ℕ) → nat_lt o objects ≡ true → (not slot || o == 0) ≡ true → o < (if slot then 1 else objects)
 row_below true o objects less only = (let is : o ≡ 0 = eqb-true o 0 only in omega arith)
@@ -104,7 +143,8 @@ meets true false false y only same = refl
 meets false c true y only same = absurd (false≢true (only refl))
 meets false c false y only same = refl
 
-refs_wanted : (p : Posed) (m : Reading) (r : RelVar) (truth : ℕ → Bool) (gates : List ℕ) (o : ℕ) (v : Value) → AreWanted p m r AsSet truth gates → o * (p.scope.objects + 1) + place_of v < gate_count p AsSet r
+refs_wanted : (p : Posed) (m : Reading) (r : RelVar) (truth : ℕ → Bool) (gates : List ℕ) (o : ℕ) (v : Value) → AreWanted p m r AsSet truth gates
+    → o * (p.scope.objects + 1) + place_of v < gate_count p AsSet r
     → is_reference p.scope.objects v ≡ true → m.refs r o v ≡ in_row truth (p.scope.objects + 1) gates o (place_of v)
 refs_wanted p m r truth gates o v are within is =
     let below = place_within p.scope.objects v is in
@@ -113,7 +153,8 @@ refs_wanted p m r truth gates o v are within is =
     ∙ ap (λ i. m.refs r o (reference_at i)) (mod-mul-add o (p.scope.objects + 1) (place_of v) below)
     ∙ ap (m.refs r o) (reference_back p.scope.objects v is))
 
-pub refs_agree : (p : Posed) (kinds : Kinds) (m : Reading) (r : RelVar) (u : Use) (truth : ℕ → Bool) (gates : List ℕ) → IsOf p kinds m → has_use p kinds u r.what ≡ true → AreWanted p m r u truth gates
+pub refs_agree : (p : Posed) (kinds : Kinds) (m : Reading) (r : RelVar) (u : Use) (truth : ℕ → Bool) (gates : List ℕ) → IsOf p kinds m → has_use p kinds u r.what ≡ true
+    → AreWanted p m r u truth gates
     → (o : ℕ) (v : Value) → m.refs r o v ≡ refs_shown p kinds truth (Some gates) r o v
 refs_agree p kinds m r u truth gates of its are o v =
     meets (has_place p kinds AsSet r o) (is_reference p.scope.objects v) (m.refs r o v) (in_row truth (p.scope.objects + 1) gates o (place_of v)) (of.refs r o v)
@@ -128,7 +169,8 @@ flag_meets true x y only same = same refl
 flag_meets false true y only same = absurd (false≢true (only refl))
 flag_meets false false y only same = refl
 
-pub flag_agrees : (p : Posed) (kinds : Kinds) (m : Reading) (r : RelVar) (u : Use) (truth : ℕ → Bool) (gates : List ℕ) → IsOf p kinds m → has_use p kinds u r.what ≡ true → AreWanted p m r u truth gates
+pub flag_agrees : (p : Posed) (kinds : Kinds) (m : Reading) (r : RelVar) (u : Use) (truth : ℕ → Bool) (gates : List ℕ) → IsOf p kinds m → has_use p kinds u r.what ≡ true
+    → AreWanted p m r u truth gates
     → (o : ℕ) → m.flag r o ≡ flag_shown p kinds truth (Some gates) r o
 flag_agrees p kinds m r u truth gates of its are o =
     flag_meets (has_place p kinds AsFlag r o) (m.flag r o) (in_row truth 1 gates o 0) (of.flags r o)
@@ -139,10 +181,12 @@ flag_agrees p kinds m r u truth gates of its are o =
 
 -- ### numbers
 
-row_wanted : (width o : ℕ) (truth : ℕ → Bool) (gates : List ℕ) (bit_of : ℕ → Bool) → ((i : ℕ) → i < width → truth (get_or gates (o * width + i) 0) ≡ bit_of i) → row_bits truth width gates o ≡ map bit_of (range_with_len 0 width)
+row_wanted : (width o : ℕ) (truth : ℕ → Bool) (gates : List ℕ) (bit_of : ℕ → Bool) → ((i : ℕ) → i < width → truth (get_or gates (o * width + i) 0) ≡ bit_of i)
+    → row_bits truth width gates o ≡ map bit_of (range_with_len 0 width)
 row_wanted width o truth gates bit_of are = map_alike (in_row truth width gates o) bit_of 0 width (λ i below. are i (omega (arith, below)))
 
-number_wanted : (p : Posed) (kinds : Kinds) (m : Reading) (r : RelVar) (truth : ℕ → Bool) (gates : List ℕ) (o top : ℕ) → AreWanted p m r AsNumber truth gates → has_place p kinds AsNumber r o ≡ true
+number_wanted : (p : Posed) (kinds : Kinds) (m : Reading) (r : RelVar) (truth : ℕ → Bool) (gates : List ℕ) (o top : ℕ) → AreWanted p m r AsNumber truth gates
+    → has_place p kinds AsNumber r o ≡ true
     → p.scope.ints ≡ suc top → in_bits p.scope.ints (m.number r o) ≡ true → m.number r o ≡ signed (row_bits truth p.scope.ints gates o)
 number_wanted p kinds m r truth gates o top are there wide is =
     let less : p.scope.ints - 1 ≡ top = omega (arith, wide) in
@@ -154,7 +198,8 @@ number_wanted p kinds m r truth gates o top are there wide is =
     ∙ ap (λ t. signed_digit t (m.number r o) i) less) in
     sym (ap signed row ∙ signed_of_digits p.scope.ints top (m.number r o) is wide)
 
-class_wanted : (p : Posed) (kinds : Kinds) (m : Reading) (r : RelVar) (truth : ℕ → Bool) (gates : List ℕ) (o c : ℕ) → AreWanted p m r AsClass truth gates → has_place p kinds AsClass r o ≡ true
+class_wanted : (p : Posed) (kinds : Kinds) (m : Reading) (r : RelVar) (truth : ℕ → Bool) (gates : List ℕ) (o c : ℕ) → AreWanted p m r AsClass truth gates
+    → has_place p kinds AsClass r o ≡ true
     → m.number r o ≡ pos c → c < 2 ^ class_bits p → m.number r o ≡ pos (number (row_bits truth (class_bits p) gates o))
 class_wanted p kinds m r truth gates o c are there is small =
     let row : row_bits truth (class_bits p) gates o ≡ map (digit c) (range_with_len 0 (class_bits p)) =
@@ -170,7 +215,8 @@ bits_enough : (n : ℕ) → n ≤ 16 → (a b c d : Bool) → nat_lt 1 n ≡ a �
     → n ≤ 2 ^ count_by (λ b. nat_lt (2 ^ b) n) (range_with_len 0 4)
 bits_enough n few true true true true one two four eight = rw (one, two, four, eight) (omega (arith, few))
 bits_enough n few true true true false one two four eight = rw (one, two, four, eight) (ltb-false 8 n eight)
-bits_enough n few true true false d one two four eight = (let less : n ≤ 4 = ltb-false 4 n four in let not_eight : nat_lt 8 n ≡ false = le-ltb 8 n (omega (arith, less)) in rw (one, two, four, not_eight) less)
+bits_enough n few true true false d one two four eight = (let less : n ≤ 4 = ltb-false 4 n four in let not_eight : nat_lt 8 n ≡ false = le-ltb 8 n (omega (arith, less))
+    in rw (one, two, four, not_eight) less)
 bits_enough n few true false c d one two four eight =
     let less : n ≤ 2 = ltb-false 2 n two in
     let not_four : nat_lt 4 n ≡ false = le-ltb 4 n (omega (arith, less)) in
@@ -185,7 +231,12 @@ bits_enough n few false b c d one two four eight =
 
 pub classes_fit : (p : Posed) (c : ℕ) → length p.unit.classes ≤ 16 → c < length p.unit.classes → c < 2 ^ class_bits p
 classes_fit p c few less =
-    omega (arith, less, bits_enough (length p.unit.classes) few (nat_lt 1 (length p.unit.classes)) (nat_lt 2 (length p.unit.classes)) (nat_lt 4 (length p.unit.classes)) (nat_lt 8 (length p.unit.classes)) refl refl refl refl)
+    omega (
+      arith,
+      less,
+      bits_enough (length p.unit.classes) few (nat_lt 1 (length p.unit.classes)) (nat_lt 2 (length p.unit.classes)) (nat_lt 4 (length p.unit.classes))
+          (nat_lt 8 (length p.unit.classes)) refl refl refl refl,
+    )
 
 -- the number of a class of the unit
 class_of : (p : Posed) (z : ℤ) → is_class_number p z ≡ true → (c : ℕ) × (z ≡ pos c) × (c < length p.unit.classes)
@@ -206,7 +257,8 @@ in_bits_of p kinds r o z can there =
           absurd (false≢true (sym (ap (same_use AsNumber) same)))
     ]
 
-class_at : (p : Posed) (kinds : Kinds) (r : RelVar) (o : ℕ) (z : ℤ) → can_have p kinds r o z ≡ true → has_place p kinds AsNumber r o ≡ false → length p.unit.classes ≤ 16 → (c : ℕ) × (z ≡ pos c) × (c < 2 ^ class_bits p)
+class_at : (p : Posed) (kinds : Kinds) (r : RelVar) (o : ℕ) (z : ℤ) → can_have p kinds r o z ≡ true → has_place p kinds AsNumber r o ≡ false → length p.unit.classes ≤ 16
+    → (c : ℕ) × (z ≡ pos c) × (c < 2 ^ class_bits p)
 class_at p kinds r o z can none few =
     elim (or_cases (int_eq z (pos 0) || (has_place p kinds AsNumber r o && in_bits p.scope.ints z)) (has_place p kinds AsClass r o && is_class_number p z) can) [
       | inl first ↦ elim (or_cases (int_eq z (pos 0)) (has_place p kinds AsNumber r o && in_bits p.scope.ints z) first) [
@@ -218,7 +270,8 @@ class_at p kinds r o z can none few =
           (found.0, found.1, classes_fit p found.0 few found.2)
     ]
 
-no_number : (p : Posed) (kinds : Kinds) (r : RelVar) (o : ℕ) (z : ℤ) → can_have p kinds r o z ≡ true → has_place p kinds AsNumber r o ≡ false → has_place p kinds AsClass r o ≡ false → z ≡ pos 0
+no_number : (p : Posed) (kinds : Kinds) (r : RelVar) (o : ℕ) (z : ℤ) → can_have p kinds r o z ≡ true → has_place p kinds AsNumber r o ≡ false
+    → has_place p kinds AsClass r o ≡ false → z ≡ pos 0
 no_number p kinds r o z can none nor =
     elim (or_cases (int_eq z (pos 0) || (has_place p kinds AsNumber r o && in_bits p.scope.ints z)) (has_place p kinds AsClass r o && is_class_number p z) can) [
       | inl first ↦ elim (or_cases (int_eq z (pos 0)) (has_place p kinds AsNumber r o && in_bits p.scope.ints z) first) [
@@ -237,7 +290,8 @@ number_agrees p kinds m r u truth gates of wide few its are o =
     elim (cases_Bool (has_place p kinds AsNumber r o)) [
       | inl there ↦
           number_wanted p kinds m r truth gates o (p.scope.ints - 1)
-          (subst (λ t. AreWanted p m r t truth gates) (one_use p kinds r.what u AsNumber its (use_at p kinds AsNumber r o there)) are) there (omega (arith, wide)) (in_bits_of p kinds r o (m.number r o) (of.numbers r o) there)
+          (subst (λ t. AreWanted p m r t truth gates) (one_use p kinds r.what u AsNumber its (use_at p kinds AsNumber r o there)) are) there (omega (arith, wide))
+          (in_bits_of p kinds r o (m.number r o) (of.numbers r o) there)
           ∙ sym (ap (λ a. shown a (has_place p kinds AsClass r o)) there)
       | inr none ↦ elim (cases_Bool (has_place p kinds AsClass r o)) [
         | inl there ↦

@@ -1,9 +1,8 @@
 -- What the circuit of a formula is. (This project's own.)
-use Rattle.std.specs.Prelude.{◌≡◌, ℕ, ◌*◌, ◌<◌, ◌≤◌, Bool, true, List, length, slice_get, IsTrue, ◌≢◌}
+use Rattle.std.specs.Prelude.{◌≡◌, ℕ, ◌<◌, Bool, true, List, length, IsTrue, ◌≢◌}
 use Rattle.std.specs.List.{slice_index_or}
 use Rattle.gate_core.specs.declared.circuit.Node.{Node}
-use Rattle.gate_core.specs.declared.circuit.Node.TheVariants.{Input}
-use Rattle.gate_core.specs.Circuit.{value, IsOf, Keeps, StandsAt}
+use Rattle.gate_core.specs.Circuit.{value}
 use Rattle.heap_core.specs.Posed.{Posed}
 use Rattle.canonical_order.specs.Tuples.{tuples}
 use Rattle.tuple_sets.specs.Words.{has}

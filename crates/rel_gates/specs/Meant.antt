@@ -1,6 +1,6 @@
 -- The gates of sets, numbers and formulas: what they have under each reading that the inputs show. (This project's
 -- own.)
-use Rattle.std.specs.Prelude.{◌≡◌, ℕ, zero, suc, ◌+◌, ◌*◌, ◌<◌, Bool, true, List, length, Option, Some, None, is_some, All, IsTrue}
+use Rattle.std.specs.Prelude.{◌≡◌, ℕ, zero, suc, ◌+◌, ◌*◌, ◌<◌, Bool, List, length, Some, All, IsTrue}
 use Rattle.std.specs.List.{slice_index_or, list_all}
 use Rattle.gate_core.specs.declared.circuit.Node.{Node}
 use Rattle.gate_core.specs.Circuit.{value, IsOf}

@@ -1,5 +1,5 @@
 -- Which relations a formula names, and with how many gates; new inputs. (This project's own.)
-use Rattle.std.specs.Prelude.{◌≡◌, ℕ, ◌+◌, ◌*◌, ◌<◌, ◌≤◌, ◌==◌, Bool, true, false, ◌&&◌, List, [], ◌∷◌, ◌++◌, length, map, flat_map, slice_get, Option, Some, None, IsTrue, All}
+use Rattle.std.specs.Prelude.{◌≡◌, ℕ, ◌*◌, ◌<◌, ◌≤◌, ◌==◌, Bool, true, false, List, [], ◌∷◌, ◌++◌, length, map, flat_map, slice_get, Option, Some, None, IsTrue, All}
 use Rattle.std.specs.List.{slice_index_or, list_all}
 use Rattle.std.specs.Option.{option_map_or}
 use Rattle.gate_core.specs.declared.circuit.Node.{Node}
@@ -176,7 +176,8 @@ pub record IsSmall (p : Posed) : Type 0 where
 
 -- the first uses of a list are named, and what was named still is
 pub record NamesFirst (before after : List Node) (es fs : Named) (wanted : Wanted) (count : ℕ) : Type 0 where
-  pub goes_on : (p : Posed) (kinds : Kinds) (upper : List ℕ) (old : List Node) → IsSmall p → FitUses p kinds wanted → IsNaming p kinds upper old before es → IsNaming p kinds upper old after fs
+  pub goes_on : (p : Posed) (kinds : Kinds) (upper : List ℕ) (old : List Node) → IsSmall p → FitUses p kinds wanted → IsNaming p kinds upper old before es
+      → IsNaming p kinds upper old after fs
   pub there : (p : Posed) (kinds : Kinds) (upper : List ℕ) (old : List Node) → IsSmall p → FitUses p kinds wanted → IsNaming p kinds upper old before es
       → (i : ℕ) (x : RelVar × ℕ) → i < count → slice_get wanted i ≡ Some x → IsTrue (is_named_for fs x)
   pub stays : (x : RelVar × ℕ) → IsTrue (is_named_for es x) → IsTrue (is_named_for fs x)

@@ -1,5 +1,32 @@
 -- What truth values of gates show of the relations that have gates. (This project's own.)
-use Rattle.std.specs.Prelude.{◌≡◌, ℕ, zero, suc, ◌+◌, ◌*◌, ◌^◌, nat_lt, ℤ, pos, Bool, false, ◌&&◌, if◌then◌else◌, List, [], ◌∷◌, map, length, count_by, slice_get, Option, Some, None, is_some, IsTrue}
+use Rattle.std.specs.Prelude.{
+  ◌≡◌,
+  ℕ,
+  zero,
+  suc,
+  ◌+◌,
+  ◌*◌,
+  ◌^◌,
+  nat_lt,
+  ℤ,
+  pos,
+  Bool,
+  false,
+  ◌&&◌,
+  if◌then◌else◌,
+  List,
+  [],
+  ◌∷◌,
+  map,
+  length,
+  count_by,
+  slice_get,
+  Option,
+  Some,
+  None,
+  is_some,
+  IsTrue,
+}
 use Rattle.std.specs.List.{slice_index_or, range_with_len}
 use Rattle.std.specs.Option.{option_map_or}
 use Rattle.heap_core.specs.declared.value.Value.{Value}

@@ -6,4 +6,5 @@ mod inputs;
 mod members;
 mod named;
 mod naming;
+mod truths;
 mod uses;

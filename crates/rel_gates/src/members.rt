@@ -210,8 +210,7 @@ pub(crate) fn set_gates(
         }
         RelExpr::Reach(inner, list) => {
             let members = set_gates(alloc, gates, problem, relations, inner.get())?;
-            let places =
-                reached_set(alloc, gates, problem, relations, &members, list.as_slice())?;
+            let places = reached_set(alloc, gates, problem, relations, &members, list.as_slice())?;
             Ok(places)
         }
     }

@@ -1,5 +1,5 @@
 -- One input more.
-use Rattle.std.proofs.Common.{◌≡◌, ℕ, ◌+◌, Bool, true, [], ◌∷◌, ◌++◌, refl, sym, subst, arith}
+use Rattle.std.proofs.Common.{◌≡◌, ℕ, ◌+◌, true, refl, sym, subst, arith}
 use Rattle.rel_gates.specs.Naming.{AreInputs}
 use Rattle.rel_gates.proofs.Fresh.{no_inputs, input_more}
 use Rattle.rel_gates.proofs.inputs.inputs.Goals as goal

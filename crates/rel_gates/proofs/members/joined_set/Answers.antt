@@ -1,5 +1,5 @@
 -- The relation has a row for each object.
-use Rattle.std.proofs.Common.{◌≡◌, ℕ, ◌+◌, ◌*◌, ◌<◌, Bool, length, refl, sym, subst, ap, ◌∙◌, arith}
+use Rattle.std.proofs.Common.{◌≡◌, ◌+◌, ◌*◌, length, sym, subst, arith}
 use Rattle.gate_core.specs.Circuit.{IsOf}
 use Rattle.gate_sets.specs.Lists.{AreTruths}
 use Rattle.gate_sets.specs.Shapes.{joined_set}

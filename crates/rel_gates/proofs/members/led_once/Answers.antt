@@ -1,5 +1,5 @@
 -- The relation's edges are put to the others.
-use Rattle.std.proofs.Common.{◌≡◌, ℕ, ◌+◌, ◌*◌, ◌<◌, ◌≤◌, Bool, length, sym, subst, arith}
+use Rattle.std.proofs.Common.{◌≡◌, ◌+◌, ◌*◌, ◌<◌, length, sym, subst, arith}
 use Rattle.std.proofs.lemmas.Nat.{mul-lt}
 use Rattle.gate_core.specs.Circuit.{IsOf}
 use Rattle.gate_sets.specs.Lists.{AreRows}

@@ -1,5 +1,5 @@
 -- Null's place alone.
-use Rattle.std.proofs.Common.{◌≡◌, ℕ, ◌+◌, Bool, sym, subst}
+use Rattle.std.proofs.Common.{◌+◌, subst}
 use Rattle.std.specs.Prelude.{◌==◌}
 use Rattle.gate_sets.specs.Lists.{AreTruths}
 use Rattle.heap_core.specs.Posed.{Posed}

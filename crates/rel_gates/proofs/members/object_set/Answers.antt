@@ -1,5 +1,5 @@
 -- The object's place alone.
-use Rattle.std.proofs.Common.{◌≡◌, ℕ, ◌+◌, Bool, ap, sym, subst}
+use Rattle.std.proofs.Common.{◌+◌, subst}
 use Rattle.std.specs.Prelude.{◌==◌}
 use Rattle.gate_sets.specs.Lists.{AreTruths}
 use Rattle.heap_core.specs.Posed.{Posed}

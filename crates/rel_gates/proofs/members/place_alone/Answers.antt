@@ -1,5 +1,5 @@
 -- One place more.
-use Rattle.std.proofs.Common.{◌≡◌, ℕ, ◌+◌, Bool, ◌∷◌, [], ◌++◌, refl, sym, subst, arith}
+use Rattle.std.proofs.Common.{◌≡◌, ℕ, ◌+◌, Bool, refl, sym, subst, arith}
 use Rattle.std.specs.Prelude.{◌==◌}
 use Rattle.gate_core.proofs.Values.{keeps_same}
 use Rattle.gate_sets.specs.Lists.{AreTruths}

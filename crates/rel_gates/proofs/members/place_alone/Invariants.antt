@@ -1,4 +1,4 @@
-use Rattle.std.proofs.Common.{◌≡◌, ℕ, Bool}
+use Rattle.std.proofs.Common.{ℕ, Bool}
 use Rattle.std.specs.Prelude.{◌==◌}
 use Rattle.gate_sets.specs.Lists.{AreTruths}
 use Rattle.rel_gates.proofs.members.place_alone.Given as goal

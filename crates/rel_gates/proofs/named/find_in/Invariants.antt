@@ -1,4 +1,4 @@
-use Rattle.std.proofs.Common.{◌≡◌, drop, map, List, ℕ}
+use Rattle.std.proofs.Common.{◌≡◌, drop, map}
 use Rattle.rel_gates.specs.Shown.{gates_of}
 use Rattle.rel_gates.proofs.named.find_in.Given as goal
 

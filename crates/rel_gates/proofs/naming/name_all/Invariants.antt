@@ -1,4 +1,3 @@
-use Rattle.std.proofs.Common.{◌≡◌}
 use Rattle.gate_core.specs.Circuit.{Keeps}
 use Rattle.rel_gates.specs.Naming.{NamesFirst}
 use Rattle.rel_gates.proofs.naming.name_all.Given as goal

@@ -1,5 +1,5 @@
 -- The uses of a set are those of the set within, and then its own.
-use Rattle.std.proofs.Common.{◌≡◌, ◌++◌, map, sym, ap, ◌∙◌, append_assoc}
+use Rattle.std.proofs.Common.{◌++◌, map, sym, ap, ◌∙◌, append_assoc}
 use Rattle.rel_core.specs.Uses.{AsSet}
 use Rattle.rel_gates.specs.Naming.{wanted_each, set_uses}
 use Rattle.rel_gates.proofs.UseForms.{uses_reach}
