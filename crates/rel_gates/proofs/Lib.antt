@@ -7,5 +7,7 @@ pub mod Fitting
 pub mod OfSets
 pub mod OfGraphs
 pub mod Inclusions
+pub mod OnlyOne
+pub mod AtOnly
 pub mod AllNamed
 pub mod Told

@@ -10,6 +10,7 @@ use Rattle.heap_core.specs.Posed.{Posed}
 use Rattle.rel_core.specs.declared.relation.RelVar.{RelVar}
 use Rattle.rel_core.specs.declared.sets.RelExpr.{RelExpr}
 use Rattle.rel_core.specs.declared.formula.Formula.{Formula}
+use Rattle.rel_core.specs.declared.formula.Formula.TheVariants.{Subset}
 use Rattle.rel_core.specs.Reading.{Reading}
 use Rattle.rel_core.specs.Meaning.{set_of, holds, leads}
 use Rattle.rel_core.specs.Uses.{Kinds, AsSet, is_spread, is_sorted_set, is_sorted, IsOf as IsOfProblem}
@@ -47,3 +48,8 @@ pub record AreEdges (p : Posed) (es : Named) (nodes : List Node) (rs : List RelV
   pub long : length graph ≡ p.scope.objects * p.scope.objects
   pub values : (kinds : Kinds) (m : Reading) (inputs : ℕ → Bool) → IsTrue (list_all (is_spread p kinds AsSet) rs) → IsSeen p kinds nodes es inputs m
       → (q o : ℕ) → q < p.scope.objects → o < p.scope.objects → in_row (value inputs nodes) p.scope.objects graph q o ≡ leads m rs q o
+
+-- the gate tells of any two sets with these gates whether the first is in the second
+abbrev pub IsSubset : Posed → Named → List Node → List Node → List ℕ → List ℕ → ℕ → Type 0
+IsSubset p es old new inner outer gate =
+    (d e : RelExpr) → AreSet p es old d inner → AreSet p es old e outer → IsTruthOf p es new (Subset d e) gate
