@@ -1,7 +1,7 @@
 -- What a relation has at the only object of a set.
-use Rattle.std.proofs.Common.{◌≡◌, ℕ, ◌+◌, ◌*◌, ◌<◌, ◌≤◌, Bool, false, not, ◌&&◌, ◌||◌, List, length, get_or, All, refl, sym, subst, ap, ◌∙◌, arith, add-one, Some, is_some}
+use Rattle.std.proofs.Common.{◌≡◌, ℕ, ◌+◌, ◌*◌, ◌<◌, Bool, false, not, ◌&&◌, ◌||◌, List, get_or, sym, subst, ap, ◌∙◌, arith, add-one, Some, is_some}
 use Rattle.std.specs.Prelude.{◌==◌, filter, IsTrue}
-use Rattle.std.specs.List.{list_all, list_any, range_with_len}
+use Rattle.std.specs.List.{list_all, range_with_len}
 use Rattle.std.specs.Option.{option_map_or}
 use Rattle.std.proofs.lemmas.Bool.{and_parts}
 use Rattle.std.proofs.lemmas.Grind.{get_or_default_zero}
@@ -31,9 +31,16 @@ only_alike count a b o same within =
     ap (λ x. x && list_all (λ p. not (a p) || p == o) (range_with_len 0 count)) (same o within)
     ∙ ap (λ x. b o && x) (all_alike (λ p. not (a p) || p == o) (λ p. not (b p) || p == o) 0 count (λ q below. ap (λ x. not x || q == o) (same q (omega (arith, below)))))
 
-pub flag_at_truth : (p : Posed) (es : Named) (middle new : List Node) (e : RelExpr) (r : RelVar) (set rows places : List ℕ) (gate : ℕ) → AreSet p es middle e set → gates_of es r ≡ Some rows → Stand middle es → IsOf middle 0 → Keeps middle new
+pub flag_at_truth : (p : Posed) (es : Named) (middle new : List Node) (e : RelExpr) (r : RelVar) (set rows places : List ℕ) (gate : ℕ) → AreSet p es middle e set
+    → gates_of es r ≡ Some rows → Stand middle es → IsOf middle 0 → Keeps middle new
     → AreTruths new 1 (λ inputs i. joined_only p.scope.objects 1 middle set rows inputs i) places → gate ≡ get_or places 0 gate → IsTruthOf p es new (f.FlagAt e r) gate
-flag_at_truth p es middle new e r set rows places gate are found stand some keeps truths is = record { of = subst (IsOf new) (sym is) (truths.of 0 gate (omega (arith, truths.wide))); truth = values }
+flag_at_truth p es middle new e r set rows places gate are found stand some keeps truths is = record {
+  of = subst (IsOf new) (sym is) (truths.of 0 gate (omega (
+    arith,
+    truths.wide,
+  )));
+  truth = values;
+}
   where
     values : (kinds : Kinds) (m : Reading) (inputs : ℕ → Bool) → IsTrue (is_sorted p kinds (f.FlagAt e r)) → IsSeen p kinds new es inputs m → value inputs new gate ≡ holds (f.FlagAt e r) m
     values kinds m inputs sorted seen =
@@ -48,7 +55,8 @@ flag_at_truth p es middle new e r set rows places gate are found stand some keep
         ∙ ap (λ b. b && value inputs middle (get_or rows (o * 1 + 0) 0)) (spread_place p kinds AsFlag r o parts.1 below)) in
         ap (value inputs new) (is ∙ get_or_default_zero places 0 gate (omega (arith, truths.wide)))
         ∙ truths.values inputs 0 (omega arith)
-        ∙ any_row_alike p.scope.objects (is_only p.scope.objects (has_gate (λ k. value inputs middle (get_or set k 0)))) (is_only p.scope.objects (has_object (set_of e m))) (λ o i. value inputs middle (get_or rows (o * 1 + i) 0)) (λ o i. m.flag r o) 0
+        ∙ any_row_alike p.scope.objects (is_only p.scope.objects (has_gate (λ k. value inputs middle (get_or set k 0)))) (is_only p.scope.objects (has_object (set_of e
+        m))) (λ o i. value inputs middle (get_or rows (o * 1 + i) 0)) (λ o i. m.flag r o) 0
         (λ o below. only_alike p.scope.objects (has_gate (λ k. value inputs middle (get_or set k 0))) (has_object (set_of e m)) o member below) flag
         ∙ sym (only_value (has_object (set_of e m)) (m.flag r) p.scope.objects)
         ∙ ap (λ n. option_map_or (m.flag r) (only (objects_below n)) false) (sym before.of_problem.objects)

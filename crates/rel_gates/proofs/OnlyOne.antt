@@ -1,9 +1,9 @@
 -- The only object of a set: of the list of its objects, and as each object tells of itself.
-use Rattle.std.proofs.Common.{◌≡◌, ℕ, zero, suc, ◌+◌, ◌<◌, ◌≤◌, Bool, true, false, not, ◌&&◌, ◌||◌, List, [], ◌∷◌, length, refl, sym, subst, ap, ◌∙◌, arith, inl, inr, Some, None}
+use Rattle.std.proofs.Common.{◌≡◌, ℕ, zero, suc, ◌+◌, ◌<◌, ◌≤◌, Bool, true, false, not, ◌&&◌, ◌||◌, List, [], ◌∷◌, refl, sym, ap, ◌∙◌, arith, inl, inr}
 use Rattle.std.specs.Prelude.{◌==◌, filter, if◌then◌else◌}
 use Rattle.std.specs.List.{list_all, list_any, range_with_len}
 use Rattle.std.specs.Option.{option_map_or}
-use Rattle.std.proofs.lemmas.Bool.{false≢true, cases_Bool, cases_eq, and_from, and_left, and_right, or_from, or_left, or_right, eq-eqb, ne_eqb, not_from_true, not_from_false}
+use Rattle.std.proofs.lemmas.Bool.{cases_Bool, cases_eq, and_from, and_left, and_right, or_from, or_left, or_right, eq-eqb, ne_eqb, not_from_true, not_from_false}
 use Rattle.gate_sets.specs.Shapes.{is_only}
 use Rattle.rel_core.specs.Meaning.{only}
 
@@ -12,7 +12,8 @@ use Rattle.rel_core.specs.Meaning.{only}
 all_range : (test : ℕ → Bool) (a n : ℕ) → ((q : ℕ) → a ≤ q → q < a + n → test q ≡ true) → list_all test (range_with_len a n) ≡ true
 all_range test a zero each = refl
 all_range test a (suc n) each =
-    and_from (test a) (list_all test (range_with_len (a + 1) n)) (each a (omega arith) (omega arith)) (all_range test (a + 1) n (λ q from to. each q (omega (arith, from)) (omega (arith, to))))
+    and_from (test a) (list_all test (range_with_len (a + 1) n)) (each a (omega arith) (omega arith)) (all_range test (a + 1) n (λ q from to. each q (omega (arith, from))
+    (omega (arith, to))))
 
 not_all : (test : ℕ → Bool) (a n q : ℕ) → a ≤ q → q < a + n → test q ≡ false → list_all test (range_with_len a n) ≡ false
 not_all test a zero q from to fails = absurd (omega (arith, from, to))
@@ -33,11 +34,13 @@ none_filtered : (set : ℕ → Bool) (a n : ℕ) → filter set (range_with_len 
 none_filtered set a zero is q from to = absurd (omega (arith, from, to))
 none_filtered set a (suc n) is q from to =
     elim (cases_Bool (set a)) [
-      | inl there ↦ absurd (let full : (a ∷ filter set (range_with_len (a + 1) n)) ≡ [] = sym (ap (λ b. if b then a ∷ filter set (range_with_len (a + 1) n) else filter set (range_with_len (a + 1) n)) there) ∙ is in cc)
+      | inl there ↦ absurd (let full : (a ∷ filter set (range_with_len (a + 1) n)) ≡ [] = sym (ap (λ b. if b then a ∷ filter set (range_with_len (a + 1) n) else filter
+          set (range_with_len (a + 1) n)) there) ∙ is in cc)
       | inr absent ↦ elim (cases_eq q a) [
         | inl same ↦ ap set same ∙ absent
         | inr other ↦
-            none_filtered set (a + 1) n (sym (ap (λ b. if b then a ∷ filter set (range_with_len (a + 1) n) else filter set (range_with_len (a + 1) n)) absent) ∙ is) q (omega (arith, from, other)) (omega (arith, to))
+            none_filtered set (a + 1) n (sym (ap (λ b. if b then a ∷ filter set (range_with_len (a + 1) n) else filter set (range_with_len (a + 1) n)) absent)
+            ∙ is) q (omega (arith, from, other)) (omega (arith, to))
       ]
     ]
 
@@ -46,7 +49,8 @@ first_filtered set a zero q qs is = absurd (cc)
 first_filtered set a (suc n) q qs is =
     elim (cases_Bool (set a)) [
       | inl there ↦
-          let full : (a ∷ filter set (range_with_len (a + 1) n)) ≡ q ∷ qs = sym (ap (λ b. if b then a ∷ filter set (range_with_len (a + 1) n) else filter set (range_with_len (a + 1) n)) there) ∙ is in
+          let full : (a ∷ filter set (range_with_len (a + 1) n)) ≡ q ∷ qs = sym (ap (λ b. if b then a ∷ filter set (range_with_len (a + 1) n) else filter set
+          (range_with_len (a + 1) n)) there) ∙ is in
           let same : a ≡ q = cc in
           (omega (arith, same), omega (arith, same), ap set (sym same) ∙ there)
       | inr absent ↦
@@ -65,7 +69,8 @@ alone set os o = set o && list_all (λ p. not (set p) || p == o) os
 
 -- of a set that has a, and of the numbers behind a
 with_first : (set f : ℕ → Bool) (a n : ℕ) (found : List ℕ) → set a ≡ true → filter set (range_with_len (a + 1) n) ≡ found
-    → option_map_or f (only (a ∷ found)) false ≡ ((alone set (a ∷ range_with_len (a + 1) n) a && f a) || list_any (λ o. alone set (a ∷ range_with_len (a + 1) n) o && f o) (range_with_len (a + 1) n))
+    → option_map_or f (only (a ∷ found)) false ≡ ((alone set (a ∷ range_with_len (a + 1) n) a && f a) || list_any (λ o. alone set (a ∷ range_with_len (a + 1) n) o && f o)
+    (range_with_len (a + 1) n))
 with_first set f a n [] there is =
     let none = none_filtered set (a + 1) n is in
     let rest : list_all (λ p. not (set p) || p == a) (range_with_len (a + 1) n) ≡ true =
@@ -87,7 +92,8 @@ with_first set f a n (q ∷ qs) there is =
     not_any (λ o. alone set (a ∷ range_with_len (a + 1) n) o && f o) (a + 1) n (λ o from to.
     and_left (alone set (a ∷ range_with_len (a + 1) n) o) (f o)
     (and_right (set o) (list_all (λ p. not (set p) || p == o) (a ∷ range_with_len (a + 1) n))
-    (and_left (not (set a) || a == o) (list_all (λ p. not (set p) || p == o) (range_with_len (a + 1) n)) (or_from (not (set a)) (a == o) (not_from_true (set a) there) (ne_eqb a o (λ same. absurd (omega (arith, same, from)))))))) in
+    (and_left (not (set a) || a == o) (list_all (λ p. not (set p) || p == o) (range_with_len (a + 1) n)) (or_from (not (set a)) (a == o) (not_from_true (set a) there)
+    (ne_eqb a o (λ same. absurd (omega (arith, same, from)))))))) in
     sym (ap (λ b. (b && f a) || list_any (λ o. alone set (a ∷ range_with_len (a + 1) n) o && f o) (range_with_len (a + 1) n)) here ∙ others)
 
 only_from : (set f : ℕ → Bool) (a n : ℕ) → option_map_or f (only (filter set (range_with_len a n))) false ≡ list_any (λ o. alone set (range_with_len a n) o && f o) (range_with_len a n)

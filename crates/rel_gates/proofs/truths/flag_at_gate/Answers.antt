@@ -1,5 +1,5 @@
 -- The only gate of the row that the only object chooses.
-use Rattle.std.proofs.Common.{◌≡◌, ℕ, ◌+◌, ◌*◌, ◌<◌, Bool, length, sym, subst, ◌∙◌, arith}
+use Rattle.std.proofs.Common.{◌≡◌, ◌*◌, length, sym, subst, arith}
 use Rattle.gate_core.specs.Circuit.{IsOf}
 use Rattle.gate_sets.specs.Lists.{AreTruths}
 use Rattle.gate_sets.specs.Shapes.{joined_only}
@@ -24,5 +24,7 @@ returns-clause-flag c = λ e are.
     let places = c.in_ok-places.places.items in
     let first = c.requires.set 0 0 (omega (arith, c.requires.wide)) in
     let some : IsOf old 0 = omega (arith, first) in
-    flag_at_truth p c.args.relations.now old new e c.args.relation c.args.set.now rows places c.index-gate.result.now are c.gates_for-rows.ensures c.requires.stand some c.in_ok-places.ensures.keeps
-    (subst (λ (q : Posed). AreTruths new 1 (λ inputs i. joined_only q.scope.objects 1 old c.args.set.now rows inputs i) places) c.problem.view_is c.in_ok-places.ensures.found) c.index-gate.ensures
+    flag_at_truth p c.args.relations.now old new e c.args.relation c.args.set.now rows places c.index-gate.result.now are c.gates_for-rows.ensures c.requires.stand some
+    c.in_ok-places.ensures.keeps
+    (subst (λ (q : Posed). AreTruths new 1 (λ inputs i. joined_only q.scope.objects 1 old c.args.set.now rows inputs i) places) c.problem.view_is
+    c.in_ok-places.ensures.found) c.index-gate.ensures
