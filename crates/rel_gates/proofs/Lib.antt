@@ -4,6 +4,7 @@ pub mod Wanted
 pub mod Growing
 pub mod UseForms
 pub mod Fitting
+pub mod NumberUses
 pub mod OfSets
 pub mod OfGraphs
 pub mod Inclusions

@@ -15,7 +15,7 @@ use Rattle.rel_core.specs.declared.numbers.NumExpr.TheOpen.{NumExpr-F}
 use Rattle.rel_core.specs.declared.formula.Formula.{Formula, fold-Formula}
 use Rattle.rel_core.specs.declared.formula.Formula.TheOpen.{Formula-F}
 use Rattle.rel_core.specs.Reading.{Reading}
-use Rattle.rel_core.specs.Uses.{IsOf as IsOfProblem, Kinds, Use, AsSet, AsNumber, AsFlag, AsClass, use_of, has_use, has_place, is_sorted_set}
+use Rattle.rel_core.specs.Uses.{IsOf as IsOfProblem, Kinds, Use, AsSet, AsNumber, AsFlag, AsClass, use_of, has_use, has_place, is_sorted_set, is_sorted_number}
 use Rattle.rel_gates.specs.Shown.{Named, gates_of, is_named, width_of, gate_count, class_bits, row_bits, Agrees, HoldsOnly}
 
 -- ## the relations that a formula uses, each with the number of gates that its use wants
@@ -185,6 +185,10 @@ pub record NamesFirst (before after : List Node) (es fs : Named) (wanted : Wante
 -- the uses of a set are by the kinds by which it is sorted
 abbrev pub SetFits : Posed → RelExpr → Type 0
 SetFits p e = (kinds : Kinds) → IsTrue (is_sorted_set p kinds e) → FitUses p kinds (set_uses p e)
+
+-- the uses of a number are by the kinds by which it is sorted
+abbrev pub NumberFits : Posed → NumExpr → Type 0
+NumberFits p e = (kinds : Kinds) → IsTrue (is_sorted_number p kinds e) → FitUses p kinds (number_uses p e)
 
 -- no class number that is shown is too large
 abbrev pub ClassesFit : Posed → Kinds → (ℕ → Bool) → Named → Type 0

@@ -1,11 +1,11 @@
 ghost use Rattle.std.specs.Prelude.{◌≡◌, ◌+◌, ◌++◌, length, map, OnOk};
 ghost use Rattle.rel_core.specs.declared.relation.RelVar.{RelVar};
 ghost use Rattle.rel_core.specs.Uses.{AsSet};
-ghost use Rattle.rel_gates.specs.Naming.{set_uses, wanted_each, SetFits};
+ghost use Rattle.rel_gates.specs.Naming.{set_uses, number_uses, wanted_each, SetFits, NumberFits};
 
 use heap_core::Problem;
 use no_memory::NoMemory;
-use rel_core::{RelExpr, RelVar};
+use rel_core::{NumExpr, RelExpr, RelVar};
 
 /// Relations that have references at each object.
 fn add_each(
@@ -50,6 +50,50 @@ pub(crate) fn add_set(
         RelExpr::Reach(inner, relations) => {
             add_set(list, problem, inner.get())?;
             add_each(list, problem, relations.as_slice())?;
+            Ok(())
+        }
+    }
+}
+
+/// The relations that a number uses, each with the number of gates that its use wants, behind those of
+/// the list.
+pub(crate) fn add_number(
+    list: &mut Vec<(RelVar, usize)>,
+    problem: &Problem,
+    number: &NumExpr,
+) -> Result<(), NoMemory>
+    ensures added { OnOk result (list.new.items ≡ list.old.items ++ number_uses problem.now number.now) }
+    ensures fits { OnOk result (NumberFits problem.now number.now) }
+{
+    match number {
+        NumExpr::Const(_) => Ok(()),
+        NumExpr::Var(relation) => {
+            list.push((*relation, usize::from(problem.scope.ints)))?;
+            Ok(())
+        }
+        NumExpr::At(set, relation) => {
+            add_set(list, problem, set.get())?;
+            let count = usize::from(problem.scope.objects) * usize::from(problem.scope.ints);
+            list.push((*relation, count))?;
+            Ok(())
+        }
+        NumExpr::Sum(a, b) => {
+            add_number(list, problem, a.get())?;
+            add_number(list, problem, b.get())?;
+            Ok(())
+        }
+        NumExpr::Diff(a, b) => {
+            add_number(list, problem, a.get())?;
+            add_number(list, problem, b.get())?;
+            Ok(())
+        }
+        NumExpr::Product(a, b) => {
+            add_number(list, problem, a.get())?;
+            add_number(list, problem, b.get())?;
+            Ok(())
+        }
+        NumExpr::Count(set) => {
+            add_set(list, problem, set.get())?;
             Ok(())
         }
     }
