@@ -1,5 +1,5 @@
 -- The uses of each form of a number, by the kinds by which it is sorted.
-use Rattle.std.proofs.Common.{◌≡◌, Bool, true, ◌&&◌, List, [], ◌∷◌, ◌++◌, refl, sym, subst, ◌∙◌}
+use Rattle.std.proofs.Common.{◌≡◌, true, ◌&&◌, [], ◌∷◌, ◌++◌, refl, sym, subst, ◌∙◌}
 use Rattle.std.specs.Prelude.{ℤ}
 use Rattle.std.proofs.lemmas.Bool.{and_parts}
 use Rattle.heap_core.specs.Posed.{Posed}
@@ -47,7 +47,8 @@ at_fits p e r fits kinds sorted =
     (fit_both p kinds (set_uses p e) (wanted_each p AsNumber r ∷ []) (fits kinds parts.0) (fit_one p kinds (wanted_each p AsNumber r) (fits_each p kinds AsNumber r parts.1)))
 
 -- both operands of an operation
-both_fit : (p : Posed) (kinds : Kinds) (a b : NumExpr) → NumberFits p a → NumberFits p b → (is_sorted_number p kinds a && is_sorted_number p kinds b) ≡ true → FitUses p kinds (number_uses p a ++ number_uses p b)
+both_fit : (p : Posed) (kinds : Kinds) (a b : NumExpr) → NumberFits p a → NumberFits p b → (is_sorted_number p kinds a && is_sorted_number p kinds b) ≡ true
+    → FitUses p kinds (number_uses p a ++ number_uses p b)
 both_fit p kinds a b first second sorted =
     let parts = and_parts (is_sorted_number p kinds a) (is_sorted_number p kinds b) sorted in
     fit_both p kinds (number_uses p a) (number_uses p b) (first kinds parts.0) (second kinds parts.1)

@@ -1,5 +1,5 @@
 -- The uses of a number are those of its parts, and then its own.
-use Rattle.std.proofs.Common.{◌≡◌, ◌++◌, sym, ap, ◌∙◌, append_assoc}
+use Rattle.std.proofs.Common.{◌++◌, sym, ap, ◌∙◌, append_assoc}
 use Rattle.rel_gates.specs.Naming.{number_uses}
 use Rattle.rel_gates.proofs.NumberUses.{uses_sum, uses_difference, uses_product, at_fits, sum_fits, difference_fits, product_fits, count_fits}
 use Rattle.rel_gates.proofs.uses.+add_number.Goals as goal
