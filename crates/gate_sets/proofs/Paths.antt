@@ -50,7 +50,8 @@ first_paths nodes count graph paths are =
     rows_alike nodes count count (λ inputs p o. o == p || in_row count nodes graph inputs p o) (paths_of count nodes graph 1) paths are
     (λ inputs p o row place. one_step (edges count nodes graph inputs) count p o row)
 
-pub more_paths : (old middle new : List Node) (count steps twice_as_many : ℕ) (graph paths next : List ℕ) → AreRows middle count count (paths_of count old graph steps) paths → twice_as_many ≡ steps + steps
+pub more_paths : (old middle new : List Node) (count steps twice_as_many : ℕ) (graph paths next : List ℕ) → AreRows middle count count (paths_of count old graph steps) paths
+    → twice_as_many ≡ steps + steps
     → AreRows new count count (λ inputs p o. any_row count (in_row count middle paths inputs p) (in_row count middle paths inputs) o) next
     → AreRows new count count (paths_of count old graph twice_as_many) next
 more_paths old middle new count steps twice_as_many graph paths next before sum are =
@@ -68,19 +69,23 @@ all_paths old new count steps graph paths are enough =
 
 -- ## what is reached from a set
 
-pub reached_from : (old middle new : List Node) (count : ℕ) (set graph paths found : List ℕ) → ((inputs : ℕ → Bool) (o : ℕ) → o < count → at middle (drop 1 set) inputs o ≡ has_object (at old set inputs) o)
+pub reached_from : (old middle new : List Node) (count : ℕ) (set graph paths found : List ℕ) → ((inputs : ℕ → Bool) (o : ℕ) → o < count
+    → at middle (drop 1 set) inputs o ≡ has_object (at old set inputs) o)
     → AreRows middle count count (λ inputs p o. closure (edges count old graph inputs) count (λ q. q == p) o) paths
     → AreTruths new count (λ inputs o. any_row count (at middle (drop 1 set) inputs) (in_row count middle paths inputs) o) found
     → AreTruths new count (λ inputs o. closure (edges count old graph inputs) count (has_object (at old set inputs)) o) found
 reached_from old middle new count set graph paths found chosen are truths =
-    truths_alike new count (λ inputs o. any_row count (at middle (drop 1 set) inputs) (in_row count middle paths inputs) o) (λ inputs o. closure (edges count old graph inputs) count (has_object (at old set inputs)) o) found truths
+    truths_alike new count (λ inputs o. any_row count (at middle (drop 1 set) inputs) (in_row count middle paths inputs) o) (λ inputs o. closure (edges count old graph
+    inputs) count (has_object (at old set inputs)) o) found truths
     (λ inputs o within.
-    any_row_alike count (at middle (drop 1 set) inputs) (has_object (at old set inputs)) (in_row count middle paths inputs) (λ p q. closure (edges count old graph inputs) count (λ r. r == p) q) o
+    any_row_alike count (at middle (drop 1 set) inputs) (has_object (at old set inputs)) (in_row count middle paths inputs) (λ p q. closure (edges count old graph inputs)
+    count (λ r. r == p) q) o
     (λ p below. chosen inputs p below) (λ p below. are.values inputs p o below within)
     ∙ sym (rounds_of_members count (edges count old graph inputs) count (has_object (at old set inputs)) o within))
 
 -- null in front, which is not reached
-pub with_null : (nodes : List Node) (n none : ℕ) (f : (ℕ → Bool) → ℕ → Bool) (gates : List ℕ) → IsOf nodes none → ((inputs : ℕ → Bool) → value inputs nodes none ≡ false) → AreTruths nodes n f gates
+pub with_null : (nodes : List Node) (n none : ℕ) (f : (ℕ → Bool) → ℕ → Bool) (gates : List ℕ) → IsOf nodes none → ((inputs : ℕ → Bool) → value inputs nodes none ≡ false)
+    → AreTruths nodes n f gates
     → AreTruths nodes (n + 1) (λ inputs i. objects_only (f inputs) i) (none ∷ gates)
 with_null nodes n none f gates of is_false truths = record {
   of = All-cons (IsOf nodes) none gates of truths.of;

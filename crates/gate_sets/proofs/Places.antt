@@ -21,7 +21,7 @@ range_last a (suc n) =
     let last : a + 1 + n ≡ a + suc n = omega arith in
     ap (range_with_len a) longer ∙ ap (λ xs. a ∷ xs) (range_last (a + 1) n) ∙ ap (λ x. a ∷ (range_with_len (a + 1) n ++ x ∷ [])) last
 
-numbers_last : (n : ℕ) → range_with_len 0 (n + 1) ≡ range_with_len 0 n ++ n ∷ []
+pub numbers_last : (n : ℕ) → range_with_len 0 (n + 1) ≡ range_with_len 0 n ++ n ∷ []
 numbers_last n = let e : 0 + n ≡ n = omega arith in range_last 0 n ∙ ap (λ x. range_with_len 0 n ++ x ∷ []) e
 
 or_none : (b : Bool) → (b || false) ≡ b
@@ -40,7 +40,8 @@ all_last p n = ap (list_all p) (numbers_last n) ∙ list_all-append p (range_wit
 
 -- ## one place more
 
-pub any_more : (middle third new : List Node) (f : (ℕ → Bool) → ℕ → Bool) (n found here next : ℕ) → IsTruth middle (λ inputs. list_any (f inputs) (range_with_len 0 n)) found → Keeps middle third
+pub any_more : (middle third new : List Node) (f : (ℕ → Bool) → ℕ → Bool) (n found here next : ℕ) → IsTruth middle (λ inputs. list_any (f inputs) (range_with_len 0 n)) found
+    → Keeps middle third
     → IsTruth third (λ inputs. f inputs n) here → IsTruth new (λ inputs. value inputs third found || value inputs third here) next
     → IsTruth new (λ inputs. list_any (f inputs) (range_with_len 0 (n + 1))) next
 any_more middle third new f n found here next before keeps is truth = record {
@@ -51,7 +52,8 @@ any_more middle third new f n found here next before keeps is truth = record {
       ∙ ap (λ v. list_any (f inputs) (range_with_len 0 n) || v) (is.value_is inputs) ∙ sym (any_last (f inputs) n);
 }
 
-pub every_more : (middle third new : List Node) (f : (ℕ → Bool) → ℕ → Bool) (n every here next : ℕ) → IsTruth middle (λ inputs. list_all (f inputs) (range_with_len 0 n)) every → Keeps middle third
+pub every_more : (middle third new : List Node) (f : (ℕ → Bool) → ℕ → Bool) (n every here next : ℕ) → IsTruth middle (λ inputs. list_all (f inputs) (range_with_len 0 n)) every
+    → Keeps middle third
     → IsTruth third (λ inputs. f inputs n) here → IsTruth new (λ inputs. value inputs third every && value inputs third here) next
     → IsTruth new (λ inputs. list_all (f inputs) (range_with_len 0 (n + 1))) next
 every_more middle third new f n every here next before keeps is truth = record {
@@ -65,7 +67,8 @@ every_more middle third new f n every here next before keeps is truth = record {
 pub truths_none : (nodes : List Node) (truth : (ℕ → Bool) → ℕ → Bool) → AreTruths nodes 0 truth []
 truths_none nodes truth = record { of = λ k d within. absurd (omega arith); wide = refl; values = λ inputs i within. absurd (omega arith) }
 
-pub truths_more : (middle new : List Node) (n : ℕ) (truth : (ℕ → Bool) → ℕ → Bool) (gates : List ℕ) (gate : ℕ) → AreTruths middle n truth gates → Keeps middle new → IsTruth new (λ inputs. truth inputs n) gate
+pub truths_more : (middle new : List Node) (n : ℕ) (truth : (ℕ → Bool) → ℕ → Bool) (gates : List ℕ) (gate : ℕ) → AreTruths middle n truth gates → Keeps middle new
+    → IsTruth new (λ inputs. truth inputs n) gate
     → AreTruths new (n + 1) truth (gates ++ gate ∷ [])
 truths_more middle new n truth gates gate before keeps last = record {
   of = All-append (IsOf new) gates (gate ∷ []) (all_more middle new gates keeps before.of) (All-cons (IsOf new) gate [] last.of (λ k d within. absurd (omega arith)));
@@ -84,7 +87,8 @@ truths_more middle new n truth gates gate before keeps last = record {
 pub rows_none : (nodes : List Node) (width : ℕ) (truth : (ℕ → Bool) → ℕ → ℕ → Bool) → AreRows nodes 0 width truth []
 rows_none nodes width truth = record { of = λ k d within. absurd (omega arith); long = omega arith; values = λ inputs o i row place. absurd (omega arith) }
 
-pub rows_more : (middle new : List Node) (n width : ℕ) (truth : (ℕ → Bool) → ℕ → ℕ → Bool) (rows row : List ℕ) → AreRows middle n width truth rows → Keeps middle new → AreTruths new width (λ inputs i. truth inputs n i) row
+pub rows_more : (middle new : List Node) (n width : ℕ) (truth : (ℕ → Bool) → ℕ → ℕ → Bool) (rows row : List ℕ) → AreRows middle n width truth rows → Keeps middle new
+    → AreTruths new width (λ inputs i. truth inputs n i) row
     → AreRows new (n + 1) width truth (rows ++ row)
 rows_more middle new n width truth rows row before keeps last = record {
   of = All-append (IsOf new) rows row (all_more middle new rows keeps before.of) last.of;

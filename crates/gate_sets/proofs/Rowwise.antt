@@ -25,17 +25,20 @@ abbrev pub IsRow : List ℕ → ℕ → ℕ → List ℕ → Type 0
 IsRow rows width place row = (i : ℕ) → i < width → get_or row i 0 ≡ get_or rows (place * width + i) 0
 
 -- what is read from a row that was taken when the circuit had grown
-pub row_read : (old new : List Node) (rows row : List ℕ) (inputs : ℕ → Bool) (count width place i : ℕ) → Keeps old new → All (IsOf old) rows → length rows ≡ count * width → place < count → IsRow rows width place row → i < width
+pub row_read : (old new : List Node) (rows row : List ℕ) (inputs : ℕ → Bool) (count width place i : ℕ) → Keeps old new → All (IsOf old) rows → length rows ≡ count * width
+    → place < count → IsRow rows width place row → i < width
     → at new row inputs i ≡ in_row width old rows inputs place i
 row_read old new rows row inputs count width place i keeps of long below is within =
     ap (value inputs new) (is i within) ∙ rows_keep old new rows inputs count width place i keeps of long below within
 
 -- a row of the squared graph
-pub squared_row : (old middle new : List Node) (graph row next : List ℕ) (count place : ℕ) → Keeps old middle → All (IsOf old) graph → length graph ≡ count * count → place < count → length row ≡ count → IsRow graph count place row
+pub squared_row : (old middle new : List Node) (graph row next : List ℕ) (count place : ℕ) → Keeps old middle → All (IsOf old) graph → length graph ≡ count * count → place < count
+    → length row ≡ count → IsRow graph count place row
     → AreTruths new count (λ inputs i. any_row (length row) (at middle row inputs) (in_row count middle graph inputs) i) next
     → AreTruths new count (λ inputs o. any_row count (in_row count old graph inputs place) (in_row count old graph inputs) o) next
 squared_row old middle new graph row next count place keeps of square below wide is truths =
-    truths_alike new count (λ inputs i. any_row (length row) (at middle row inputs) (in_row count middle graph inputs) i) (λ inputs o. any_row count (in_row count old graph inputs place) (in_row count old graph inputs) o) next truths
+    truths_alike new count (λ inputs i. any_row (length row) (at middle row inputs) (in_row count middle graph inputs) i) (λ inputs o. any_row count (in_row count old
+    graph inputs place) (in_row count old graph inputs) o) next truths
     (λ inputs o within.
     ap (λ n. any_row n (at middle row inputs) (in_row count middle graph inputs) o) wide
     ∙ any_row_alike count (at middle row inputs) (in_row count old graph inputs place) (in_row count middle graph inputs) (in_row count old graph inputs) o
@@ -48,7 +51,8 @@ pub led_row : (old middle new : List Node) (graph relation row references next :
     → AreTruths new width (λ inputs i. at middle row inputs i || at middle (drop 1 references) inputs i) next
     → AreTruths new count (λ inputs o. in_row count old graph inputs place o || in_row (count + 1) old relation inputs place (o + 1)) next
 led_row old middle new graph relation row references next count width place keeps of_graph of_relation square long below wide is are truths =
-    truths_alike new count (λ inputs i. at middle row inputs i || at middle (drop 1 references) inputs i) (λ inputs o. in_row count old graph inputs place o || in_row (count + 1) old relation inputs place (o + 1)) next
+    truths_alike new count (λ inputs i. at middle row inputs i || at middle (drop 1 references) inputs i) (λ inputs o. in_row count old graph inputs place o || in_row
+    (count + 1) old relation inputs place (o + 1)) next
     (subst (λ n. AreTruths new n (λ inputs i. at middle row inputs i || at middle (drop 1 references) inputs i) next) wide truths)
     (λ inputs o within.
     ap (λ v. v || at middle (drop 1 references) inputs o) (row_read old middle graph row inputs count count place o keeps of_graph square below is within)
@@ -56,7 +60,8 @@ led_row old middle new graph relation row references next count width place keep
     (after_first middle references inputs o ∙ row_read old middle relation references inputs count (count + 1) place (o + 1) keeps of_relation long below are (omega arith)))
 
 -- a row of first steps
-pub first_row_of : (nodes : List Node) (graph row next : List ℕ) (count width place : ℕ) → All (IsOf nodes) graph → length graph ≡ count * count → place < count → width ≡ count → IsRow graph count place row
+pub first_row_of : (nodes : List Node) (graph row next : List ℕ) (count width place : ℕ) → All (IsOf nodes) graph → length graph ≡ count * count → place < count → width ≡ count
+    → IsRow graph count place row
     → AreTruths nodes width (λ inputs o. o == place || at nodes row inputs o) next → AreTruths nodes count (λ inputs o. o == place || in_row count nodes graph inputs place o) next
 first_row_of nodes graph row next count width place of square below wide is truths =
     truths_alike nodes count (λ inputs o. o == place || at nodes row inputs o) (λ inputs o. o == place || in_row count nodes graph inputs place o) next
@@ -69,7 +74,8 @@ pub found_at_only : (old middle new : List Node) (set rows chosen found : List �
     → AreTruths new width (λ inputs i. any_row (length chosen) (at middle chosen inputs) (in_row width middle rows inputs) i) found
     → AreTruths new width (λ inputs i. any_row count (λ o. is_only count (has_object (at old set inputs)) o) (in_row width old rows inputs) i) found
 found_at_only old middle new set rows chosen found count width keeps of long are truths =
-    truths_alike new width (λ inputs i. any_row (length chosen) (at middle chosen inputs) (in_row width middle rows inputs) i) (λ inputs i. any_row count (λ o. is_only count (has_object (at old set inputs)) o) (in_row width old rows inputs) i)
+    truths_alike new width (λ inputs i. any_row (length chosen) (at middle chosen inputs) (in_row width middle rows inputs) i) (λ inputs i. any_row count (λ o. is_only
+    count (has_object (at old set inputs)) o) (in_row width old rows inputs) i)
     found truths
     (λ inputs i within.
     ap (λ n. any_row n (at middle chosen inputs) (in_row width middle rows inputs) i) are.wide

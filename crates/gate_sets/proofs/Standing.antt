@@ -37,7 +37,8 @@ truth_alike nodes f g gate truth alike = record { of = truth.of; value_is = λ i
 pub truth_kept : (old new : List Node) (f : (ℕ → Bool) → Bool) (gate : ℕ) → IsTruth old f gate → Keeps old new → IsTruth new f gate
 truth_kept old new f gate truth keeps = record { of = of_more old new gate keeps truth.of; value_is = λ inputs. keeps.values inputs gate truth.of ∙ truth.value_is inputs }
 
-pub truths_alike : (nodes : List Node) (count : ℕ) (f g : (ℕ → Bool) → ℕ → Bool) (gates : List ℕ) → AreTruths nodes count f gates → ((inputs : ℕ → Bool) (i : ℕ) → i < count → f inputs i ≡ g inputs i) → AreTruths nodes count g gates
+pub truths_alike : (nodes : List Node) (count : ℕ) (f g : (ℕ → Bool) → ℕ → Bool) (gates : List ℕ) → AreTruths nodes count f gates → ((inputs : ℕ → Bool) (i : ℕ) → i < count
+    → f inputs i ≡ g inputs i) → AreTruths nodes count g gates
 truths_alike nodes count f g gates truths alike = record { of = truths.of; wide = truths.wide; values = λ inputs i within. truths.values inputs i within ∙ alike inputs i within }
 
 pub rows_alike : (nodes : List Node) (count width : ℕ) (f g : (ℕ → Bool) → ℕ → ℕ → Bool) (rows : List ℕ) → AreRows nodes count width f rows
@@ -50,7 +51,8 @@ pub both_read : (op : Bool → Bool → Bool) (old middle new : List Node) (a b 
     → IsTruth new (λ inputs. op (at old a inputs i) (at old b inputs j)) gate
 both_read op old middle new a b i j x y gate keeps of_a of_b in_a in_b at_x at_y truth =
     truth_alike new (λ inputs. op (value inputs middle x) (value inputs middle y)) (λ inputs. op (at old a inputs i) (at old b inputs j)) gate truth
-    (λ inputs. ap (λ v. op v (value inputs middle y)) (read_kept old middle a inputs i x keeps of_a in_a at_x) ∙ ap (op (at old a inputs i)) (read_kept old middle b inputs j y keeps of_b in_b at_y))
+    (λ inputs. ap (λ v. op v (value inputs middle y)) (read_kept old middle a inputs i x keeps of_a in_a at_x)
+    ∙ ap (op (at old a inputs i)) (read_kept old middle b inputs j y keeps of_b in_b at_y))
 
 -- a place of a row is one of the list
 pub in_rows : (o n i w : ℕ) → o < n → i < w → o * w + i < n * w
@@ -58,14 +60,16 @@ in_rows o n i w row place = grind (arith, mul-add-lt o w i n row place)
 
 pub rows_keep : (old new : List Node) (rows : List ℕ) (inputs : ℕ → Bool) (count width o i : ℕ) → Keeps old new → All (IsOf old) rows → length rows ≡ count * width → o < count → i < width
     → in_row width new rows inputs o i ≡ in_row width old rows inputs o i
-rows_keep old new rows inputs count width o i keeps of long row place = at_keeps old new rows inputs (o * width + i) keeps of (subst (λ n. o * width + i < n) (sym long) (in_rows o count i width row place))
+rows_keep old new rows inputs count width o i keeps of long row place = at_keeps old new rows inputs (o * width + i) keeps of (subst (λ n. o * width + i < n) (sym long)
+    (in_rows o count i width row place))
 
 -- a list without its first place
 pub after_first : (nodes : List Node) (gates : List ℕ) (inputs : ℕ → Bool) (i : ℕ) → at nodes (drop 1 gates) inputs i ≡ at nodes gates inputs (i + 1)
 after_first nodes gates inputs i = ap (value inputs nodes) (get_or_after_one gates i 0 ∙ ap (λ k. get_or gates k 0) (omega arith))
 
 -- what some chosen row has, in tests that agree
-pub any_row_alike : (count : ℕ) (a b : ℕ → Bool) (r s : ℕ → ℕ → Bool) (i : ℕ) → ((o : ℕ) → o < count → a o ≡ b o) → ((o : ℕ) → o < count → r o i ≡ s o i) → any_row count a r i ≡ any_row count b s i
+pub any_row_alike : (count : ℕ) (a b : ℕ → Bool) (r s : ℕ → ℕ → Bool) (i : ℕ) → ((o : ℕ) → o < count → a o ≡ b o) → ((o : ℕ) → o < count → r o i ≡ s o i)
+    → any_row count a r i ≡ any_row count b s i
 any_row_alike count a b r s i chosen rows =
     any_alike (λ o. a o && r o i) (λ o. b o && s o i) 0 count (λ o below. let within : o < count = omega arith in ap (λ v. v && r o i) (chosen o within) ∙ ap (λ v. b o && v) (rows o within))
 

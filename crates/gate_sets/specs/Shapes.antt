@@ -4,8 +4,8 @@ use Rattle.std.specs.Prelude.{ℕ, ◌+◌, ◌-◌, ◌==◌, nat_lt, Bool, not
 use Rattle.std.specs.List.{list_all, list_any, range_with_len}
 use Rattle.gate_core.specs.declared.circuit.Node.{Node}
 use Rattle.gate_arith.specs.Numbers.{differ}
-use Rattle.heap_core.specs.Closure.{Graph}
-use Rattle.gate_sets.specs.Lists.{in_row}
+use Rattle.heap_core.specs.Closure.{Graph, closure}
+use Rattle.gate_sets.specs.Lists.{at, in_row}
 
 -- the object is in the set: place 0 is null's
 abbrev pub has_object : (ℕ → Bool) → ℕ → Bool
@@ -38,3 +38,21 @@ edges count nodes graph inputs p o = in_row count nodes graph inputs p o
 -- the objects of these numbers as a set: not null
 abbrev pub objects_only : (ℕ → Bool) → ℕ → Bool
 objects_only numbers i = nat_lt 0 i && numbers (i - 1)
+
+-- ## what the calls make, in these words
+
+-- a set joined with a relation
+abbrev pub joined_set : ℕ → List Node → List ℕ → List ℕ → (ℕ → Bool) → ℕ → Bool
+joined_set count nodes set relation inputs i = any_row count (has_object (at nodes set inputs)) (in_row (count + 1) nodes relation inputs) i
+
+-- what rows of this width have at the only object of a set
+abbrev pub joined_only : ℕ → ℕ → List Node → List ℕ → List ℕ → (ℕ → Bool) → ℕ → Bool
+joined_only count width nodes set rows inputs i = any_row count (λ o. is_only count (has_object (at nodes set inputs)) o) (in_row width nodes rows inputs) i
+
+-- the edges of a graph, and those of a relation, whose rows begin with null's place
+abbrev pub led_edges : ℕ → List Node → List ℕ → List ℕ → (ℕ → Bool) → Graph
+led_edges count nodes graph relation inputs p o = in_row count nodes graph inputs p o || in_row (count + 1) nodes relation inputs p (o + 1)
+
+-- the objects that are reached from those of a set
+abbrev pub reached_set : ℕ → List Node → List ℕ → List ℕ → (ℕ → Bool) → ℕ → Bool
+reached_set count nodes set graph inputs i = objects_only (closure (edges count nodes graph inputs) count (has_object (at nodes set inputs))) i

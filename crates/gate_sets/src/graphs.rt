@@ -2,7 +2,7 @@ ghost use Rattle.std.specs.Prelude.{◌≡◌, ℕ, ◌+◌, ◌*◌, ◌<◌, �
 ghost use Rattle.gate_core.specs.declared.circuit.Node.{Node};
 ghost use Rattle.gate_core.specs.Circuit.{IsOf, Keeps};
 ghost use Rattle.gate_sets.specs.Lists.{at, in_row, AreTruths, AreRows};
-ghost use Rattle.gate_sets.specs.Shapes.{has_object, any_row, edges, objects_only};
+ghost use Rattle.gate_sets.specs.Shapes.{any_row, edges, led_edges, reached_set};
 ghost use Rattle.heap_core.specs.Closure.{closure};
 
 use crate::rows::{joined, row};
@@ -62,7 +62,7 @@ pub fn led(
     requires relation { All (IsOf gates.old) relation.now }
     requires square { length graph.now ≡ objects * objects }
     requires long { length relation.now ≡ objects * (objects + 1) }
-    ensures led { IfOk result (λ r. AreRows gates.new objects objects (λ inputs p o. in_row objects gates.old graph.now inputs p o || in_row (objects + 1) gates.old relation.now inputs p (o + 1)) r.items) }
+    ensures led { IfOk result (λ r. AreRows gates.new objects objects (λ inputs p o. led_edges objects gates.old graph.now relation.now inputs p o) r.items) }
     ensures keeps { Keeps gates.old gates.new }
 {
     let count = usize::from(objects);
@@ -179,7 +179,7 @@ pub fn reached(
     requires graph { All (IsOf gates.old) graph.now }
     requires wide { length set.now ≡ objects + 1 }
     requires square { length graph.now ≡ objects * objects }
-    ensures reached { IfOk result (λ r. AreTruths gates.new (objects + 1) (λ inputs i. objects_only (closure (edges objects gates.old graph.now inputs) objects (has_object (at gates.old set.now inputs))) i) r.items) }
+    ensures reached { IfOk result (λ r. AreTruths gates.new (objects + 1) (λ inputs i. reached_set objects gates.old set.now graph.now inputs i) r.items) }
     ensures keeps { Keeps gates.old gates.new }
 {
     let paths = closed(alloc, gates, objects, graph)?;

@@ -2,7 +2,7 @@ ghost use Rattle.std.specs.Prelude.{◌≡◌, ℕ, ◌+◌, ◌*◌, ◌≤◌,
 ghost use Rattle.gate_core.specs.Circuit.{IsOf, Keeps};
 ghost use Rattle.gate_arith.specs.Operations.{IsTruth};
 ghost use Rattle.gate_sets.specs.Lists.{at, in_row, AreTruths};
-ghost use Rattle.gate_sets.specs.Shapes.{has_object, any_row, are_many, is_only, is_within};
+ghost use Rattle.gate_sets.specs.Shapes.{has_object, are_many, is_only, is_within, joined_set, joined_only};
 
 use crate::rows::{joined, within};
 use gate_arith::{both, either};
@@ -25,7 +25,7 @@ pub fn join(
     requires relation { All (IsOf gates.old) relation.now }
     requires wide { length set.now ≡ objects + 1 }
     requires long { length relation.now ≡ objects * (objects + 1) }
-    ensures joined { IfOk result (λ r. AreTruths gates.new (objects + 1) (λ inputs i. any_row objects (has_object (at gates.old set.now inputs)) (in_row (objects + 1) gates.old relation.now inputs) i) r.items) }
+    ensures joined { IfOk result (λ r. AreTruths gates.new (objects + 1) (λ inputs i. joined_set objects gates.old set.now relation.now inputs i) r.items) }
     ensures keeps { Keeps gates.old gates.new }
 {
     let (_, chosen) = set.split_at(1);
@@ -91,7 +91,7 @@ pub fn at_only(
     requires rows { All (IsOf gates.old) rows.now }
     requires wide { length set.now ≡ objects + 1 }
     requires long { length rows.now ≡ objects * width }
-    ensures found { IfOk result (λ r. AreTruths gates.new width (λ inputs i. any_row objects (λ o. is_only objects (has_object (at gates.old set.now inputs)) o) (in_row width gates.old rows.now inputs) i) r.items) }
+    ensures found { IfOk result (λ r. AreTruths gates.new width (λ inputs i. joined_only objects width gates.old set.now rows.now inputs i) r.items) }
     ensures keeps { Keeps gates.old gates.new }
 {
     let chosen = only(alloc, gates, objects, set)?;

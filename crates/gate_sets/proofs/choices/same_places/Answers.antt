@@ -22,7 +22,8 @@ loop-place-preserved c =
     let inv = c.loop-place.invariant in
     let in_a : place < length a = omega arith in
     let in_b : place < length b = omega (arith, c.requires.wide) in
-    let read = both_read (λ s t. differ s t) old middle third a b place place x y apart inv.keeps c.requires.left c.requires.right in_a in_b c.index-a-place.is c.index-b-place.is c.in_ok-apart.ensures.truth in
+    let read = both_read (λ s t. differ s t) old middle third a b place place x y apart inv.keeps c.requires.left c.requires.right in_a in_b c.index-a-place.is
+    c.index-b-place.is c.in_ok-apart.ensures.truth in
     record {
       keeps = keeps_twice old third new (keeps_twice old middle third inv.keeps c.in_ok-apart.ensures.keeps) c.in_ok-same.ensures.keeps;
       same = every_more middle third new (λ (inputs : ℕ → Bool) (i : ℕ). not (differ (at old a inputs i) (at old b inputs i))) place c.loop-place.same c.not.result c.in_ok-same.same

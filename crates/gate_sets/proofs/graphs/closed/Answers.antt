@@ -32,7 +32,8 @@ loop-steps-preserved c =
       steps = omega (arith, inv.steps);
       few = (let same : c.from-count.result ≡ c.args.objects = c.from-count.ensures in omega (arith, c.ranges.objects.fits));
       paths = more_paths old middle new count steps (steps * 2) graph paths next inv.paths (omega arith)
-          (subst (λ gs. AreRows new count count (λ inputs p o. any_row count (in_row count middle gs inputs p) (in_row count middle gs inputs) o) next) c.deref.ensures.value c.in_ok-paths-2.ensures.squared);
+          (subst (λ gs. AreRows new count count (λ inputs p o. any_row count (in_row count middle gs inputs p) (in_row count middle gs inputs) o) next)
+          c.deref.ensures.value c.in_ok-paths-2.ensures.squared);
     }
 
 pub returns-clause-closed : goal.returns-clause-closed

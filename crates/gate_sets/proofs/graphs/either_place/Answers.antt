@@ -20,7 +20,8 @@ loop-place-preserved c =
     record {
       keeps = keeps_twice old middle new inv.keeps c.in_ok-gate.ensures.keeps;
       so_far = subst (λ gs. AreTruths new (place + 1) (λ (inputs : ℕ → Bool) (i : ℕ). at old a inputs i || at old b inputs i) gs) (sym c.in_ok-push.ensures.items)
-          (truths_more middle new place (λ (inputs : ℕ → Bool) (i : ℕ). at old a inputs i || at old b inputs i) c.loop-place.places.items c.in_ok-gate.gate inv.so_far c.in_ok-gate.ensures.keeps
+          (truths_more middle new place (λ (inputs : ℕ
+          → Bool) (i : ℕ). at old a inputs i || at old b inputs i) c.loop-place.places.items c.in_ok-gate.gate inv.so_far c.in_ok-gate.ensures.keeps
           (both_read (λ s t. s || t) old middle new a b place place c.index-a-place.result c.index-b-place.result c.in_ok-gate.gate inv.keeps c.requires.left c.requires.right in_a in_b
           c.index-a-place.is c.index-b-place.is c.in_ok-gate.ensures.truth));
     }

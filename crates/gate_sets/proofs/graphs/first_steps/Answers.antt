@@ -18,5 +18,6 @@ loop-place-preserved c =
     let below : place < count = omega arith in
     subst (λ gs. AreRows nodes (place + 1) count (λ (inputs : ℕ → Bool) (p o : ℕ). o == p || in_row count nodes graph inputs p o) gs)
     (sym (c.in_ok-extend_from_slice.ensures.items ∙ ap (λ gs. c.loop-place.all.items ++ gs) c.deref.ensures.value))
-    (rows_more nodes nodes place count (λ (inputs : ℕ → Bool) (p o : ℕ). o == p || in_row count nodes graph inputs p o) c.loop-place.all.items next c.loop-place.invariant (keeps_same nodes nodes refl)
+    (rows_more nodes nodes place count (λ (inputs : ℕ
+    → Bool) (p o : ℕ). o == p || in_row count nodes graph inputs p o) c.loop-place.all.items next c.loop-place.invariant (keeps_same nodes nodes refl)
     (first_row_of nodes graph row next count (length row) place c.requires.graph c.requires.square below c.row-list.ensures.wide c.row-list.ensures.gates c.in_ok-next.ensures))

@@ -30,6 +30,7 @@ loop-place-preserved c =
       keeps = keeps_twice old middle new inv.keeps c.in_ok-next.ensures.keeps;
       so_far = subst (λ gs. AreRows new (place + 1) count (λ (inputs : ℕ → Bool) (p o : ℕ). in_row count old graph inputs p o || in_row (count + 1) old relation inputs p (o + 1)) gs)
           (sym (c.in_ok-extend_from_slice.ensures.items ∙ ap (λ gs. c.loop-place.all.items ++ gs) c.deref.ensures.value))
-          (rows_more middle new place count (λ (inputs : ℕ → Bool) (p o : ℕ). in_row count old graph inputs p o || in_row (count + 1) old relation inputs p (o + 1)) c.loop-place.all.items next inv.so_far
+          (rows_more middle new place count (λ (inputs : ℕ
+          → Bool) (p o : ℕ). in_row count old graph inputs p o || in_row (count + 1) old relation inputs p (o + 1)) c.loop-place.all.items next inv.so_far
           c.in_ok-next.ensures.keeps made);
     }

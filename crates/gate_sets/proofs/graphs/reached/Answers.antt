@@ -23,7 +23,8 @@ returns-clause-reached c =
     subst (λ n. AreTruths new count (λ inputs o. any_row n (at middle (drop 1 set) inputs) (in_row count middle paths inputs) o) found) wide
     (subst (λ n. AreTruths new n (λ inputs o. any_row (length (drop 1 set)) (at middle (drop 1 set) inputs) (in_row n middle paths inputs) o) found) c.from.ensures
     (subst (λ gs. AreTruths new c.from.result (λ inputs o. any_row (length gs) (at middle gs inputs) (in_row c.from.result middle paths inputs) o) found) c.split_at.ensures.back
-    (subst (λ gs. AreTruths new c.from.result (λ inputs o. any_row (length c.split_at.result.1.now) (at middle c.split_at.result.1.now inputs) (in_row c.from.result middle gs inputs) o) found) c.deref.ensures.value
+    (subst (λ gs. AreTruths new c.from.result (λ inputs o. any_row (length c.split_at.result.1.now) (at middle c.split_at.result.1.now inputs) (in_row c.from.result
+    middle gs inputs) o) found) c.deref.ensures.value
     c.in_ok-found.ensures.joined))) in
     let members : (inputs : ℕ → Bool) (o : ℕ) → o < count → at middle (drop 1 set) inputs o ≡ has_object (at old set inputs) o =
     λ inputs o below. after_first middle set inputs o ∙ at_keeps old middle set inputs (o + 1) c.in_ok-paths.ensures.keeps c.requires.set (omega (arith, c.requires.wide, below)) in

@@ -19,11 +19,13 @@ loop-place-preserved c =
     let next = c.in_ok-next.next.items in
     let inv = c.loop-place.invariant in
     let below : place < count = omega arith in
-    let made = squared_row old middle new graph row next count place inv.keeps c.requires.graph c.requires.square below c.row-chosen.ensures.wide c.row-chosen.ensures.gates c.in_ok-next.ensures.joined in
+    let made = squared_row old middle new graph row next count place inv.keeps c.requires.graph c.requires.square below c.row-chosen.ensures.wide
+    c.row-chosen.ensures.gates c.in_ok-next.ensures.joined in
     record {
       keeps = keeps_twice old middle new inv.keeps c.in_ok-next.ensures.keeps;
       so_far = subst (λ gs. AreRows new (place + 1) count (λ (inputs : ℕ → Bool) (p o : ℕ). any_row count (in_row count old graph inputs p) (in_row count old graph inputs) o) gs)
           (sym (c.in_ok-extend_from_slice.ensures.items ∙ ap (λ gs. c.loop-place.all.items ++ gs) c.deref.ensures.value))
-          (rows_more middle new place count (λ (inputs : ℕ → Bool) (p o : ℕ). any_row count (in_row count old graph inputs p) (in_row count old graph inputs) o) c.loop-place.all.items next inv.so_far
+          (rows_more middle new place count (λ (inputs : ℕ
+          → Bool) (p o : ℕ). any_row count (in_row count old graph inputs p) (in_row count old graph inputs) o) c.loop-place.all.items next inv.so_far
           c.in_ok-next.ensures.keeps made);
     }

@@ -22,9 +22,11 @@ loop-number-preserved c =
     let in_list : n * width + place < length rows = subst (λ m. n * width + place < m) (sym c.requires.long) (in_rows n (length chosen) place width in_chosen c.requires.place) in
     record {
       keeps = keeps_twice old third new (keeps_twice old middle third inv.keeps c.in_ok-here.ensures.keeps) c.in_ok-found.ensures.keeps;
-      found = any_more middle third new (λ (inputs : ℕ → Bool) (o : ℕ). at old chosen inputs o && in_row width old rows inputs o place) n c.loop-number.found c.in_ok-here.here c.in_ok-found.found
+      found = any_more middle third new (λ (inputs : ℕ
+          → Bool) (o : ℕ). at old chosen inputs o && in_row width old rows inputs o place) n c.loop-number.found c.in_ok-here.here c.in_ok-found.found
           inv.found c.in_ok-here.ensures.keeps
-          (both_read (λ s t. s && t) old middle third chosen rows n (n * width + place) c.index-chosen-number.result c.index-rows-start.result c.in_ok-here.here inv.keeps c.requires.chosen c.requires.rows
+          (both_read (λ s t. s && t) old middle third chosen rows n (n * width + place) c.index-chosen-number.result c.index-rows-start.result c.in_ok-here.here inv.keeps
+          c.requires.chosen c.requires.rows
           in_chosen in_list c.index-chosen-number.is c.index-rows-start.is c.in_ok-here.ensures.truth)
           c.in_ok-found.ensures.truth;
     }

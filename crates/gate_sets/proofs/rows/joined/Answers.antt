@@ -20,10 +20,13 @@ loop-place-preserved c =
     let inside : place < width = omega arith in
     record {
       keeps = keeps_twice old middle new inv.keeps c.in_ok-gate.ensures.keeps;
-      so_far = subst (λ gs. AreTruths new (place + 1) (λ (inputs : ℕ → Bool) (i : ℕ). any_row (length chosen) (at old chosen inputs) (in_row width old rows inputs) i) gs) (sym c.in_ok-push.ensures.items)
-          (truths_more middle new place (λ (inputs : ℕ → Bool) (i : ℕ). any_row (length chosen) (at old chosen inputs) (in_row width old rows inputs) i) c.loop-place.joined.items c.in_ok-gate.gate inv.so_far
+      so_far = subst (λ gs. AreTruths new (place + 1) (λ (inputs : ℕ
+          → Bool) (i : ℕ). any_row (length chosen) (at old chosen inputs) (in_row width old rows inputs) i) gs) (sym c.in_ok-push.ensures.items)
+          (truths_more middle new place (λ (inputs : ℕ
+          → Bool) (i : ℕ). any_row (length chosen) (at old chosen inputs) (in_row width old rows inputs) i) c.loop-place.joined.items c.in_ok-gate.gate inv.so_far
           c.in_ok-gate.ensures.keeps
-          (truth_alike new (λ inputs. any_row (length chosen) (at middle chosen inputs) (in_row width middle rows inputs) place) (λ inputs. any_row (length chosen) (at old chosen inputs) (in_row width old rows inputs) place)
+          (truth_alike new (λ inputs. any_row (length chosen) (at middle chosen inputs) (in_row width middle rows inputs) place) (λ inputs. any_row (length chosen) (at
+          old chosen inputs) (in_row width old rows inputs) place)
           c.in_ok-gate.gate c.in_ok-gate.ensures.truth
           (λ inputs. any_row_alike (length chosen) (at middle chosen inputs) (at old chosen inputs) (in_row width middle rows inputs) (in_row width old rows inputs) place
           (λ o below. at_keeps old middle chosen inputs o inv.keeps c.requires.chosen below)

@@ -26,7 +26,8 @@ loop-place-preserved c =
       every = every_more middle third new (λ (inputs : ℕ → Bool) (i : ℕ). not (at old a inputs i) || at old b inputs i) place c.loop-place.every c.in_ok-here.here c.in_ok-every.every
           inv.every c.in_ok-here.ensures.keeps
           (both_read (λ s t. not s || t) old middle third a b place place x y c.in_ok-here.here inv.keeps c.requires.left c.requires.right in_a in_b c.index-a-place.is c.index-b-place.is
-          (truth_alike third (λ inputs. value inputs middle c.not.result || value inputs middle y) (λ inputs. not (value inputs middle x) || value inputs middle y) c.in_ok-here.here c.in_ok-here.ensures.truth
+          (truth_alike third (λ inputs. value inputs middle c.not.result || value inputs middle y) (λ inputs. not (value inputs middle x) || value inputs middle y)
+          c.in_ok-here.here c.in_ok-here.ensures.truth
           (λ inputs. ap (λ v. v || value inputs middle y) (c.not.ensures.value inputs middle))))
           c.in_ok-every.ensures.truth;
     }

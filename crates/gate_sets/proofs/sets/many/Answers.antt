@@ -26,13 +26,20 @@ loop-place-preserved c =
     record {
       keeps = keeps_twice old third new kept c.in_ok-some.ensures.keeps;
       some = any_more middle third new (λ (inputs : ℕ → Bool). at old list inputs) place c.loop-place.some x c.in_ok-some.some inv.some grown
-          (record { of = of_more old third x kept (read_of old list place x c.requires within c.index-list-place.is); value_is = λ inputs. read_kept old third list inputs place x kept c.requires within c.index-list-place.is })
+          (record {
+            of = of_more old third x kept (read_of old list place x c.requires within c.index-list-place.is);
+            value_is = λ inputs. read_kept old third list inputs
+                place x kept c.requires within c.index-list-place.is;
+          })
           c.in_ok-some.ensures.truth;
       many = truth_kept third new (λ inputs. are_many (place + 1) (at old list inputs)) c.in_ok-many.many
-          (any_more middle second third (λ (inputs : ℕ → Bool) (j : ℕ). at old list inputs j && list_any (at old list inputs) (range_with_len 0 j)) place c.loop-place.many c.in_ok-again.again c.in_ok-many.many inv.many
+          (any_more middle second third (λ (inputs : ℕ
+          → Bool) (j : ℕ). at old list inputs j && list_any (at old list inputs) (range_with_len 0 j)) place c.loop-place.many c.in_ok-again.again c.in_ok-many.many inv.many
           c.in_ok-again.ensures.keeps
-          (truth_alike second (λ inputs. value inputs middle x && value inputs middle c.loop-place.some) (λ inputs. at old list inputs place && list_any (at old list inputs) (range_with_len 0 place)) c.in_ok-again.again c.in_ok-again.ensures.truth
-          (λ inputs. ap (λ v. v && value inputs middle c.loop-place.some) (read_kept old middle list inputs place x inv.keeps c.requires within c.index-list-place.is) ∙ ap (λ v. at old list inputs place && v) (inv.some.value_is inputs)))
+          (truth_alike second (λ inputs. value inputs middle x && value inputs middle c.loop-place.some) (λ inputs. at old list inputs place && list_any (at old list
+          inputs) (range_with_len 0 place)) c.in_ok-again.again c.in_ok-again.ensures.truth
+          (λ inputs. ap (λ v. v && value inputs middle c.loop-place.some) (read_kept old middle list inputs place x inv.keeps c.requires within c.index-list-place.is)
+          ∙ ap (λ v. at old list inputs place && v) (inv.some.value_is inputs)))
           c.in_ok-many.ensures.truth)
           c.in_ok-some.ensures.keeps;
     }

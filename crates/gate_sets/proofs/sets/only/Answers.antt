@@ -27,7 +27,8 @@ loop-place-preserved c =
     record {
       keeps = keeps_twice first middle new inv.keeps c.in_ok-gate.ensures.keeps;
       so_far = subst (λ gs. AreTruths new (place + 1) (λ (inputs : ℕ → Bool) (o : ℕ). is_only (length list) (at old list inputs) o) gs) (sym c.in_ok-push.ensures.items)
-          (truths_more middle new place (λ (inputs : ℕ → Bool) (o : ℕ). is_only (length list) (at old list inputs) o) c.loop-place.only.items c.in_ok-gate.gate inv.so_far c.in_ok-gate.ensures.keeps
+          (truths_more middle new place (λ (inputs : ℕ
+          → Bool) (o : ℕ). is_only (length list) (at old list inputs) o) c.loop-place.only.items c.in_ok-gate.gate inv.so_far c.in_ok-gate.ensures.keeps
           (record {
             of = c.in_ok-gate.ensures.truth.of;
             value_is = λ inputs.

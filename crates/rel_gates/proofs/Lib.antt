@@ -1,0 +1,14 @@
+pub mod Fresh
+pub mod Digits
+pub mod Wanted
+pub mod Growing
+pub mod UseForms
+pub mod Fitting
+pub mod NumberUses
+pub mod OfSets
+pub mod OfGraphs
+pub mod Inclusions
+pub mod OnlyOne
+pub mod AtOnly
+pub mod AllNamed
+pub mod Told

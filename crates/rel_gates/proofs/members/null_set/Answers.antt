@@ -1,0 +1,12 @@
+-- Null's place alone.
+use Rattle.std.proofs.Common.{◌+◌, subst}
+use Rattle.std.specs.Prelude.{◌==◌}
+use Rattle.gate_sets.specs.Lists.{AreTruths}
+use Rattle.heap_core.specs.Posed.{Posed}
+use Rattle.rel_gates.proofs.OfSets.{null_members}
+use Rattle.rel_gates.proofs.members.null_set.Goals as goal
+
+pub returns : goal.returns
+returns c =
+    null_members c.args.problem.now c.args.relations.now c.args.gates.now c.in_ok-places.places.items
+    (subst (λ (q : Posed). AreTruths c.args.gates.now (q.scope.objects + 1) (λ inputs i. i == 0) c.in_ok-places.places.items) c.problem.view_is c.in_ok-places.ensures)

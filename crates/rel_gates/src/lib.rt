@@ -1,0 +1,10 @@
+//! Circuits of formulas within an upper bound: the gate of a formula, with an input of its own for each tuple
+//! that a table still has.
+#![tactic(auto)]
+
+mod inputs;
+mod members;
+mod named;
+mod naming;
+mod truths;
+mod uses;
