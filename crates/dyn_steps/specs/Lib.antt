@@ -1,0 +1,5 @@
+pub mod Points
+pub mod Agreeing
+pub mod Looked
+pub mod Paths
+pub mod Meanings
