@@ -6,3 +6,4 @@ pub mod Setting
 pub mod Numbers
 pub mod Saying
 pub mod Acts
+pub mod Combining

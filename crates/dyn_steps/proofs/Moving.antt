@@ -92,13 +92,13 @@ shows_both p kinds vars m at s heap values = record {
 }
   where
     one : (x : ℕ) (k : Kind) (b : Bool) → vars x ≡ b → (if b then slice_get kinds x else None) ≡ Some k → ShowsValue m k (relation_at at (what.Slot x)) 0 (var_at s.vars x)
-    one x k true in is = values x k in is
-    one x k false in is = absurd (none_some is)
+    one x k true inside is = values x k inside is
+    one x k false inside is = absurd (none_some is)
 
 pub vars_shown : (p : Posed) (kinds : List Kind) (vars : Vars) (m : Reading) (at : Point) (s : DynState) → Shows p kinds vars m at s → ShowsVars kinds vars m at s
-vars_shown p kinds vars m at s shown x k in is =
+vars_shown p kinds vars m at s shown x k inside is =
     subst (λ r. ShowsValue m k r 0 (var_at s.vars x)) (slot_is at x)
-    (shown.values x k (ap (λ b. if b then slice_get kinds x else None) in ∙ is))
+    (shown.values x k (ap (λ b. if b then slice_get kinds x else None) inside ∙ is))
 
 -- whether a relation is looked at: of the variables those of the set alone
 abbrev pub IsLooked : Vars → What → Type 0
@@ -112,7 +112,7 @@ pub shows_move : (p : Posed) (kinds : List Kind) (vars : Vars) (m u : Reading) (
     → Shows p kinds vars u to s
 shows_move p kinds vars m u at to s same alike shown =
     shows_both p kinds vars u to s (heap_moves p.unit m u at to s.objects same heap_alike shown.heap)
-    (λ x k in is. value_moves m (relation_at at (what.Slot x)) u (relation_at to (what.Slot x)) k 0 (var_at s.vars x) same (alike (what.Slot x) in) (vars_shown p kinds vars m at s shown x k in is))
+    (λ x k inside is. value_moves m (relation_at at (what.Slot x)) u (relation_at to (what.Slot x)) k 0 (var_at s.vars x) same (alike (what.Slot x) inside) (vars_shown p kinds vars m at s shown x k inside is))
   where
     heap_alike : (w : What) → is_slot w ≡ false → IsAlike m (relation_at at w) u (relation_at to w)
     heap_alike what.Live is = alike what.Live tt

@@ -82,7 +82,7 @@ reference_has t k v all is = at v is
 
     at : (v : Value) → is_reference k v ≡ true → t v ≡ true
     at Null is = both.0
-    at (Obj o) is = all_below (λ o. t (Obj o)) 0 k o both.1 (omega arith) (ltb-true o k is)
+    at (Obj o) is = let low : o < k = ltb-true o k is in all_below (λ o. t (Obj o)) 0 k o both.1 (omega arith) (omega arith)
     at (Num z) is = absurd (false≢true is)
     at (Flag b) is = absurd (false≢true is)
 
@@ -94,8 +94,8 @@ abbrev pub IsWithin : ℕ → ValueSet → Type 0
 IsWithin k s = (v : Value) → s v ≡ true → is_reference k v ≡ true
 
 implied : (a b : Bool) → (not a || b) ≡ true → a ≡ true → b ≡ true
-implied true b is yes = is
-implied false b is yes = absurd (false≢true yes)
+implied true b is has = is
+implied false b is has = absurd (false≢true has)
 
 implies_self : (a b : Bool) → a ≡ b → (not a || b) ≡ true
 implies_self true true same = refl

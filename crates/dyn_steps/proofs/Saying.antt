@@ -59,7 +59,7 @@ flag_same false true is = absurd (false≢true is)
 same_flags : (x y : Bool) → x ≡ y → same_flag x y ≡ true
 same_flags true y is = sym is
 same_flags false false is = refl
-same_flags false true is = absurd (false≢true (sym is))
+same_flags false true is = absurd (false≢true is)
 
 -- nothing is said of what has no value
 pub says_never : (m : Reading) (k : Kind) (r : RelVar) (e : Seen) → ((v : Value) → e ≡ Is v → ⊥) → Says m k r e false

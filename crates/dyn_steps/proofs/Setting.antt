@@ -1,5 +1,5 @@
 -- Actions that set a variable to what an evaluation gives: from a formula that says so at the next index.
-use Rattle.std.proofs.Common.{◌≡◌, ℕ, ◌+◌, ◌<◌, ◌≤◌, Bool, true, false, List, [], length, Some, None, refl, sym, ◌∙◌, ap, subst, inl, inr, arith, get_or}
+use Rattle.std.proofs.Common.{◌≡◌, ◌⊎◌, ℕ, ◌+◌, ◌<◌, ◌≤◌, Bool, true, false, List, [], length, Some, None, refl, sym, ◌∙◌, ap, subst, inl, inr, arith, get_or}
 use Rattle.std.specs.Prelude.{slice_get, slice_set}
 use Rattle.std.proofs.lemmas.Bool.{cases_eq}
 use Rattle.std.proofs.lemmas.Option.{slice_get_within}
@@ -50,7 +50,7 @@ is_state : (p : Posed) (kinds : List Kind) (t : DynState) → HasKinds p kinds t
 is_state p kinds t has = record { few_objects = has.few_objects; objects_whole = has.objects_whole; values = has.vars }
 
 -- no field and no variable has an index of its own
-first_point : Point
+abbrev first_point : Point
 first_point = record { fields = []; live = 0; vars = [] }
 
 first_is : IsFirst (indices_of first_point)
@@ -116,7 +116,7 @@ var_shown_after p kinds before after m at n x k s v within there kept shown valu
     (heap_moves p.unit m m at (var_moved at x n) s.objects refl (var_heap_alike at x n m) shown.heap) each
   where
     each : ShowsVars kinds after m (var_moved at x n) (record s { vars = with_var s.vars x v })
-    each y l in is = elim (cases_eq y x) [
+    each y l inside is = elim (cases_eq y x) [
       | inl same ↦
           let one : k ≡ l = some_same (sym there ∙ ap (slice_get kinds) (sym same) ∙ is) in
           let now : v ≡ var_at (with_var s.vars x v) y = sym (ap (var_at (with_var s.vars x v)) same ∙ var_set s.vars x v) in
@@ -125,7 +125,7 @@ var_shown_after p kinds before after m at n x k s v within there kept shown valu
           let here : ShowsValue m l (relation_at (var_moved at x n) (what.Slot x)) 0 (var_at (with_var s.vars x v) y) = subst (λ i. ShowsValue m l (record { what = what.Slot x; index = i }) 0 (var_at (with_var s.vars x v) y)) index at_x in
           subst (λ z. ShowsValue m l (relation_at (var_moved at x n) (what.Slot z)) 0 (var_at (with_var s.vars x v) y)) (sym same) here
       | inr apart ↦
-          let old : ShowsValue m l (relation_at at (what.Slot y)) 0 (var_at s.vars y) = vars_shown p kinds before m at s shown y l (kept y in apart) is in
+          let old : ShowsValue m l (relation_at at (what.Slot y)) 0 (var_at s.vars y) = vars_shown p kinds before m at s shown y l (kept y inside apart) is in
           let index : index_of at (what.Slot y) ≡ index_of (var_moved at x n) (what.Slot y) = sym (var_index_apart at x n y apart) in
           subst (λ u. ShowsValue m l (relation_at (var_moved at x n) (what.Slot y)) 0 u) (sym (var_apart s.vars x v y apart))
           (subst (λ i. ShowsValue m l (record { what = what.Slot y; index = i }) 0 (var_at s.vars y)) index old)

@@ -1,6 +1,7 @@
 -- Sets of variables: those that are looked at. (Live variables, as compilers have them; this project's own form.)
-use Rattle.std.specs.Prelude.{ℕ, ◌==◌, Bool, true, not, ◌&&◌, ◌||◌, if◌then◌else◌, List, slice_get, None}
+use Rattle.std.specs.Prelude.{ℕ, ◌==◌, Bool, true, not, ◌&&◌, ◌||◌, if◌then◌else◌, List, get_or, slice_get, None}
 use Rattle.taco_unit.specs.declared.kind.Kind.{Kind}
+use Rattle.taco_unit.specs.declared.kind.Kind.TheVariants.{Int}
 use Rattle.rel_core.specs.Uses.{Kinds}
 use Rattle.dyn_core.specs.declared.prog.Act.{Act}
 use Rattle.dyn_core.specs.declared.prog.Act.TheVariants.{Copy, Const, Sum, Diff, Product, Same, Below, Read, Write, Make}
@@ -19,6 +20,10 @@ without x vars y = not (y == x) && vars y
 -- one more
 abbrev pub with_one : ℕ → Vars → Vars
 with_one x vars y = y == x || vars y
+
+-- the kind of a variable, where it has one
+abbrev pub kind_at : List Kind → ℕ → Kind
+kind_at kinds x = get_or kinds x Int
 
 -- the kinds of these variables alone
 abbrev pub kinds_in : List Kind → Vars → Kinds

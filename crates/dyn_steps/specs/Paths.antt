@@ -1,7 +1,7 @@
 -- Path formulas: when a formula, with the indices at which it begins and ends, is one of a relation on states.
 -- (The TACO article's translation of programs, with states as indexed variables; that existence is said of every
 -- reading that agrees below the next index is this project's own.)
-use Rattle.std.specs.Prelude.{◌≡◌, ℕ, ◌+◌, ◌≤◌, Bool, List, slice_get, Some, IsTrue}
+use Rattle.std.specs.Prelude.{◌≡◌, ◌⊎◌, ℕ, ◌+◌, ◌≤◌, Bool, List, slice_get, Some, IsTrue}
 use Rattle.taco_unit.specs.declared.kind.Kind.{Kind}
 use Rattle.heap_core.specs.declared.value.Value.TheVariants.{Flag}
 use Rattle.heap_core.specs.Posed.{Posed}

@@ -4,6 +4,8 @@
 mod equations;
 mod part;
 mod point;
+mod setting;
 
 pub use part::{Basis, Front, Part};
 pub use point::Point;
+pub use setting::{below, constant, copy, difference, product, read, same, sum};

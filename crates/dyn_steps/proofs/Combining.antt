@@ -1,0 +1,21 @@
+-- Meanings of formulas by those of their parts.
+use Rattle.std.proofs.Common.{◌≡◌, Bool, true, ◌&&◌, refl, ◌∙◌, ap}
+use Rattle.std.proofs.lemmas.Bool.{false≢true}
+use Rattle.taco_unit.specs.declared.kind.Kind.{Kind}
+use Rattle.taco_unit.specs.declared.kind.Kind.TheVariants as kind
+use Rattle.heap_core.specs.declared.value.Value.TheVariants.{Num}
+use Rattle.rel_core.specs.Reading.{Reading}
+use Rattle.rel_core.specs.Meaning.{ValueSet, is_subset}
+use Rattle.dyn_core.specs.Kinds.{takes_constant}
+
+pub subset_of : (m : Reading) (a b s t : ValueSet) → a ≡ s → b ≡ t → is_subset m a b ≡ is_subset m s t
+subset_of m a b s t first second = ap (λ z. is_subset m z b) first ∙ ap (λ z. is_subset m s z) second
+
+pub both_of : (a b s t : Bool) → a ≡ s → b ≡ t → (a && b) ≡ (s && t)
+both_of a b s t first second = ap (λ z. z && b) first ∙ ap (λ z. s && z) second
+
+-- a number can stand for a number alone
+pub number_kind : (z : _) (k : Kind) → takes_constant (Num z) k ≡ true → k ≡ kind.Int
+number_kind z kind.Int takes = refl
+number_kind z kind.Flag takes = absurd (false≢true takes)
+number_kind z (kind.Ref c) takes = absurd (false≢true takes)
