@@ -37,7 +37,7 @@ use Rattle.dyn_steps.specs.Looked.{Vars, without, with_one, kind_at, looked_at}
 use Rattle.dyn_steps.specs.Meanings.{same_variables, is_number, is_constant, is_through, is_cell}
 use Rattle.dyn_steps.specs.Paths.{Shows, Acts, IsStep, var_set}
 use Rattle.dyn_steps.proofs.Moving.{vars_shown}
-use Rattle.dyn_steps.proofs.Setting.{Sets, set_path}
+use Rattle.dyn_steps.proofs.SetVars.{Sets, set_path}
 use Rattle.dyn_steps.proofs.Saying.{Says, says_never, says_number, says_flag, says_null, says_copy, sameness, says_cell, says_through, says_null_way}
 
 -- ## sets of variables

@@ -1,8 +1,10 @@
 -- Meanings of formulas by those of their parts.
-use Rattle.std.proofs.Common.{◌≡◌, Bool, true, ◌&&◌, refl, ◌∙◌, ap}
+use Rattle.std.proofs.Common.{◌≡◌, Bool, true, ◌&&◌, refl, sym, ◌∙◌, ap}
+use Rattle.std.specs.Prelude.{ℤ}
 use Rattle.std.proofs.lemmas.Bool.{false≢true}
 use Rattle.taco_unit.specs.declared.kind.Kind.{Kind}
 use Rattle.taco_unit.specs.declared.kind.Kind.TheVariants as kind
+use Rattle.heap_core.specs.declared.value.Value.{Value}
 use Rattle.heap_core.specs.declared.value.Value.TheVariants.{Num}
 use Rattle.rel_core.specs.Reading.{Reading}
 use Rattle.rel_core.specs.Meaning.{ValueSet, is_subset}
@@ -15,7 +17,10 @@ pub both_of : (a b s t : Bool) → a ≡ s → b ≡ t → (a && b) ≡ (s && t)
 both_of a b s t first second = ap (λ z. z && b) first ∙ ap (λ z. s && z) second
 
 -- a number can stand for a number alone
-pub number_kind : (z : _) (k : Kind) → takes_constant (Num z) k ≡ true → k ≡ kind.Int
-number_kind z kind.Int takes = refl
-number_kind z kind.Flag takes = absurd (false≢true takes)
-number_kind z (kind.Ref c) takes = absurd (false≢true takes)
+pub number_kind : (v : Value) (z : ℤ) (k : Kind) → v ≡ Num z → takes_constant v k ≡ true → k ≡ kind.Int
+number_kind v z k is takes = at k (ap (λ u. takes_constant u k) (sym is) ∙ takes)
+  where
+    at : (k : Kind) → takes_constant (Num z) k ≡ true → k ≡ kind.Int
+    at kind.Int takes = refl
+    at kind.Flag takes = absurd (false≢true takes)
+    at (kind.Ref c) takes = absurd (false≢true takes)

@@ -2,8 +2,11 @@ pub mod Moving
 pub mod Readings
 pub mod JoinedPaths
 pub mod Following
-pub mod Setting
+pub mod SetVars
 pub mod Numbers
 pub mod Saying
 pub mod Acts
 pub mod Combining
+pub mod Places
+pub mod Written
+pub mod Parts

@@ -45,18 +45,18 @@ flags_same is = cc
 num_flag : {x : ℤ} {y : Bool} → Num x ≡ Flag y → ⊥
 num_flag is = absurd (cc)
 
-int_same : (x y : ℤ) → int_eq x y ≡ true → x ≡ y
+pub int_same : (x y : ℤ) → int_eq x y ≡ true → x ≡ y
 int_same x y is = (Decides-int_eq x y).0 is
 
-same_int : (x y : ℤ) → x ≡ y → int_eq x y ≡ true
+pub same_int : (x y : ℤ) → x ≡ y → int_eq x y ≡ true
 same_int x y is = (Decides-int_eq x y).1 is
 
-flag_same : (x y : Bool) → same_flag x y ≡ true → x ≡ y
+pub flag_same : (x y : Bool) → same_flag x y ≡ true → x ≡ y
 flag_same true y is = sym is
 flag_same false false is = refl
 flag_same false true is = absurd (false≢true is)
 
-same_flags : (x y : Bool) → x ≡ y → same_flag x y ≡ true
+pub same_flags : (x y : Bool) → x ≡ y → same_flag x y ≡ true
 same_flags true y is = sym is
 same_flags false false is = refl
 same_flags false true is = absurd (false≢true is)

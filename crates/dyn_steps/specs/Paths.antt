@@ -19,7 +19,7 @@ use Rattle.dyn_core.specs.Kinds.{is_kinded_act, HasKinds}
 use Rattle.dyn_steps.specs.declared.point.Point.{Point}
 use Rattle.dyn_steps.specs.declared.part.Front.{Front}
 use Rattle.dyn_steps.specs.declared.part.Part.{Part}
-use Rattle.dyn_steps.specs.Points.{index_of, indices_of, var_moved, IsPoint}
+use Rattle.dyn_steps.specs.Points.{index_of, indices_of, var_moved, field_moved, IsPoint}
 use Rattle.dyn_steps.specs.Agreeing.{Agree}
 use Rattle.dyn_steps.specs.Looked.{Vars, kinds_in, looked_at}
 
@@ -88,3 +88,7 @@ IsStep p kinds act from part =
 -- a part that gives a variable the next index
 abbrev pub var_set : Front → ℕ → Formula → Part
 var_set from x f = record { formula = f; end = record { at = var_moved from.at x from.next; next = from.next + 1 } }
+
+-- a part that gives a field the next index
+abbrev pub field_set : Front → ℕ → Formula → Part
+field_set from g f = record { formula = f; end = record { at = field_moved from.at g from.next; next = from.next + 1 } }

@@ -67,7 +67,7 @@ pub fn copy(
     target: u16,
     source: u16,
 ) -> Result<Part, NoMemory>
-    ensures { IfOk result (IsStep basis.problem.now basis.kinds.now (acts.Copy target source) from) }
+    ensures { IfOk result (IsStep basis.entry.problem.now basis.entry.kinds.now (acts.Copy target source) from) }
 {
     well_posed(basis.problem);
     let kind = kind_of(basis.kinds, target);
@@ -86,7 +86,7 @@ pub fn constant(
     target: u16,
     value: Value,
 ) -> Result<Part, NoMemory>
-    ensures { IfOk result (IsStep basis.problem.now basis.kinds.now (acts.Const target value) from) }
+    ensures { IfOk result (IsStep basis.entry.problem.now basis.entry.kinds.now (acts.Const target value) from) }
 {
     well_posed(basis.problem);
     let new = slot(target, from.next);
@@ -104,7 +104,7 @@ pub fn sum(
     left: u16,
     right: u16,
 ) -> Result<Part, NoMemory>
-    ensures { IfOk result (IsStep basis.problem.now basis.kinds.now (acts.Sum target left right) from) }
+    ensures { IfOk result (IsStep basis.entry.problem.now basis.entry.kinds.now (acts.Sum target left right) from) }
 {
     well_posed(basis.problem);
     let new = slot(target, from.next);
@@ -124,7 +124,7 @@ pub fn difference(
     left: u16,
     right: u16,
 ) -> Result<Part, NoMemory>
-    ensures { IfOk result (IsStep basis.problem.now basis.kinds.now (acts.Diff target left right) from) }
+    ensures { IfOk result (IsStep basis.entry.problem.now basis.entry.kinds.now (acts.Diff target left right) from) }
 {
     well_posed(basis.problem);
     let new = slot(target, from.next);
@@ -144,7 +144,7 @@ pub fn product(
     left: u16,
     right: u16,
 ) -> Result<Part, NoMemory>
-    ensures { IfOk result (IsStep basis.problem.now basis.kinds.now (acts.Product target left right) from) }
+    ensures { IfOk result (IsStep basis.entry.problem.now basis.entry.kinds.now (acts.Product target left right) from) }
 {
     well_posed(basis.problem);
     let new = slot(target, from.next);
@@ -164,7 +164,7 @@ pub fn same(
     left: u16,
     right: u16,
 ) -> Result<Part, NoMemory>
-    ensures { IfOk result (IsStep basis.problem.now basis.kinds.now (acts.Same target left right) from) }
+    ensures { IfOk result (IsStep basis.entry.problem.now basis.entry.kinds.now (acts.Same target left right) from) }
 {
     well_posed(basis.problem);
     let kind = kind_of(basis.kinds, left);
@@ -185,7 +185,7 @@ pub fn below(
     left: u16,
     right: u16,
 ) -> Result<Part, NoMemory>
-    ensures { IfOk result (IsStep basis.problem.now basis.kinds.now (acts.Below target left right) from) }
+    ensures { IfOk result (IsStep basis.entry.problem.now basis.entry.kinds.now (acts.Below target left right) from) }
 {
     well_posed(basis.problem);
     let new = slot(target, from.next);
@@ -205,7 +205,7 @@ pub fn read(
     object: u16,
     field: u8,
 ) -> Result<Part, NoMemory>
-    ensures { IfOk result (IsStep basis.problem.now basis.kinds.now (acts.Read target object field) from) }
+    ensures { IfOk result (IsStep basis.entry.problem.now basis.entry.kinds.now (acts.Read target object field) from) }
 {
     well_posed(basis.problem);
     let kind = kind_of(basis.kinds, target);

@@ -6,10 +6,13 @@ use Rattle.std.proofs.lemmas.Option.{slice_get_within}
 use Rattle.std.proofs.lemmas.List.{length-set, get_or-set_same, get_or-set_other}
 use Rattle.taco_unit.specs.declared.kind.Kind.{Kind}
 use Rattle.taco_unit.specs.Well.{IsWell}
+use Rattle.taco_unit.specs.declared.unit.FieldDef.{FieldDef}
 use Rattle.heap_core.specs.declared.value.Value.{Value}
+use Rattle.heap_core.specs.declared.value.Value.TheVariants.{Obj}
 use Rattle.heap_core.specs.declared.value.Seen.{Seen}
 use Rattle.heap_core.specs.declared.value.Seen.TheVariants.{Is, Bad, Out}
 use Rattle.heap_core.specs.Posed.{Posed, InRange}
+use Rattle.heap_core.specs.Heap.{is_of, field}
 use Rattle.heap_core.proofs.FieldLaws.{none_some, some_same}
 use Rattle.rel_core.specs.declared.formula.Formula.{Formula}
 use Rattle.rel_core.specs.declared.relation.RelVar.{RelVar}
@@ -67,6 +70,22 @@ state_value p kinds t well range has x k n is =
     let shown = (states_are_shown p (slice_get kinds) (state_in t) well range (is_state p kinds t has)).shown (indices_of first_point) first_is in
     value_moves at_first (record { what = what.Slot x; index = 0 }) (state_reading p kinds t) (record { what = what.Slot x; index = n }) k 0 (var_at t.vars x) refl
     (moved_alike first_index at_first (record { what = what.Slot x; index = n })) (shown.values x k is)
+
+-- the value of a field at an object of its class
+pub state_cell : (p : Posed) (kinds : List Kind) (t : DynState) → IsWell p.unit → InRange p → HasKinds p kinds t → (g : ℕ) (d : FieldDef) (o n : ℕ) (v : Value) → slice_get p.unit.fields g ≡ Some d → is_of t.objects d.class o ≡ true
+    → field p.unit.classes t.objects g (Obj o) ≡ Is v
+    → ShowsValue (state_reading p kinds t) d.kind (record { what = what.Field g; index = n }) o v
+state_cell p kinds t well range has g d o n v there of gives =
+    let at_first = reading_of_state p (slice_get kinds) (state_in t) in
+    let shown = (states_are_shown p (slice_get kinds) (state_in t) well range (is_state p kinds t has)).shown (indices_of first_point) first_is in
+    let cell = shown.heap.cells g d o there of in
+    let same : cell.value ≡ v = is_same (sym cell.is ∙ gives) in
+    subst (λ u. ShowsValue (state_reading p kinds t) d.kind (record { what = what.Field g; index = n }) o u) same
+    (value_moves at_first (record { what = what.Field g; index = 0 }) (state_reading p kinds t) (record { what = what.Field g; index = n }) d.kind o cell.value refl
+    (moved_alike first_index at_first (record { what = what.Field g; index = n })) cell.shown)
+  where
+    is_same : {u v : Value} → Is u ≡ Is v → u ≡ v
+    is_same is = cc
 
 -- ## a variable at another index
 
