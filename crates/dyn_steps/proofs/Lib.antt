@@ -10,3 +10,4 @@ pub mod Combining
 pub mod Places
 pub mod Written
 pub mod Parts
+pub mod Tested

@@ -1,6 +1,8 @@
 -- The parts of actions, from what the formulas that are built are promised to mean.
-use Rattle.std.proofs.Common.{◌≡◌, ℕ, ◌+◌, Bool, true, ◌&&◌, List, Some, sym, ◌∙◌, ap, subst}
-use Rattle.std.specs.Prelude.{ℤ, ◌+ℤ◌, ◌-ℤ◌, ◌*ℤ◌, int_lt, slice_get}
+use Rattle.std.proofs.Common.{◌≡◌, ℕ, ◌+◌, Bool, true, false, ◌&&◌, List, Some, refl, sym, ◌∙◌, ap, subst, get_or}
+use Rattle.std.specs.Prelude.{◌==◌, option_map, ℤ, ◌+ℤ◌, ◌-ℤ◌, ◌*ℤ◌, int_lt, slice_get}
+use Rattle.std.specs.Option.{option_map_or}
+use Rattle.std.proofs.lemmas.Bool.{and_from, eq-eqb}
 use Rattle.taco_unit.specs.declared.kind.Kind.{Kind}
 use Rattle.taco_unit.specs.declared.kind.Kind.TheVariants as kind
 use Rattle.taco_unit.specs.declared.unit.FieldDef.{FieldDef}
@@ -12,16 +14,17 @@ use Rattle.rel_core.specs.declared.formula.Formula.{Formula}
 use Rattle.rel_core.specs.declared.relation.RelVar.{RelVar}
 use Rattle.rel_core.specs.declared.relation.What.TheVariants as what
 use Rattle.rel_core.specs.Reading.{Reading}
-use Rattle.rel_core.specs.Meaning.{holds, fitting}
-use Rattle.rel_core.specs.Uses.{Kinds, AsSet, AsNumber, AsFlag, use_of_kind, is_variable, is_spread, is_sorted}
-use Rattle.dyn_core.specs.declared.prog.Act.TheVariants.{Copy, Const, Sum, Diff, Product, Same, Below, Read}
+use Rattle.rel_core.specs.Meaning.{holds, fitting, is_changed}
+use Rattle.rel_core.specs.Uses.{Kinds, AsSet, AsNumber, AsFlag, use_of_kind, is_variable, use_of, has_use, can_change, is_spread, is_sorted}
+use Rattle.dyn_core.specs.declared.prog.Act.TheVariants.{Copy, Const, Sum, Diff, Product, Same, Below, Read, Write}
 use Rattle.dyn_core.specs.Kinds.{takes_constant}
 use Rattle.dyn_steps.specs.declared.part.Front.{Front}
 use Rattle.dyn_steps.specs.declared.part.Part.{Part}
-use Rattle.dyn_steps.specs.Points.{relation_at, slot}
+use Rattle.dyn_steps.specs.Points.{relation_at, slot, field_at}
 use Rattle.dyn_steps.specs.Looked.{kind_at}
 use Rattle.dyn_steps.specs.Meanings.{same_variables, is_number, is_constant, is_through, is_cell}
-use Rattle.dyn_steps.specs.Paths.{IsStep, var_set}
+use Rattle.dyn_steps.specs.Paths.{IsStep, var_set, field_set}
+use Rattle.dyn_steps.proofs.Written.{write_step}
 use Rattle.dyn_steps.proofs.Acts.{variable_used, field_used, kind_known, copy_step, const_step, sum_step, difference_step, product_step, below_step, same_step, read_step}
 
 module _ (p : Posed) (kinds : List Kind) (well : IsWell p.unit) (range : InRange p) (from : Front) (part : Part) (f : Formula) where
@@ -134,6 +137,28 @@ module _ (p : Posed) (kinds : List Kind) (well : IsWell p.unit) (range : InRange
       (read_step p kinds from f well range x y g
       (λ d there target object. sorted p (slice_get kinds) (used (kind.Ref d.class) a y _ a_is object) (used_as k d.kind x r x from.next kind_is target r_is target)
           (ap (λ z. is_spread p (slice_get kinds) (use_of_kind z) b) (kind_is ∙ kind_known kinds x d.kind target)
-          ∙ ap (λ z. is_spread p (slice_get kinds) (use_of_kind d.kind) z) b_is ∙ field_used p (slice_get kinds) g _ d there))
+          ∙ ap (λ z. is_spread p (slice_get kinds) (use_of_kind d.kind) z) b_is ∙ field_used p (slice_get kinds) g (get_or from.at.fields g 0) d there))
       (λ m. meaning m ∙ ap (λ w. is_through m a && is_cell m w r a b) kind_is
           ∙ three (λ u v w. is_through m v && is_cell m (kind_at kinds x) u v w) r a b (new x) (old y) (relation_at from.at (what.Field g)) r_is a_is b_is))
+
+  -- a field can change to the value of a variable of its kind
+  field_changes : (g y i j k : ℕ) (d : FieldDef) → slice_get p.unit.fields g ≡ Some d → slice_get kinds y ≡ Some d.kind → can_change p (slice_get kinds) (field_at g i) (slot y j) (field_at g k) ≡ true
+  field_changes g y i j k d there value =
+      and_from (g == g) (option_map_or (λ u. has_use p (slice_get kinds) u (what.Slot y)) (use_of p (slice_get kinds) (what.Field g)) false) (eq-eqb g g refl)
+      (ap (λ o. option_map_or (λ u. has_use p (slice_get kinds) u (what.Slot y)) (option_map (λ (d : FieldDef). use_of_kind d.kind) o) false) there
+      ∙ variable_used p kinds y j d.kind value)
+
+  pub write_part :
+      (x g y : ℕ) (r a b d : RelVar)
+      → r ≡ field_at g from.next → a ≡ old x → b ≡ old y → d ≡ relation_at from.at (what.Field g) → part ≡ field_set from g f
+      → ((m : Reading) → holds f m ≡ (is_through m a && is_changed m r (m.refs a 0) b d))
+      → ((p : Posed) (kinds : Kinds) → is_variable p kinds AsSet a ≡ true → can_change p kinds r b d ≡ true → is_sorted p kinds f ≡ true)
+      → IsStep p kinds (Write x g y) from part
+  write_part x g y r a b d r_is a_is b_is d_is is meaning sorted =
+      subst (λ w. IsStep p kinds (Write x g y) from w) (sym is)
+      (write_step p kinds from f x g y well range
+      (λ e there object value. sorted p (slice_get kinds) (used (kind.Ref e.class) a x (get_or from.at.vars x 0) a_is object)
+          (ap (λ z. can_change p (slice_get kinds) z b d) r_is ∙ ap (λ z. can_change p (slice_get kinds) (field_at g from.next) z d) b_is ∙ ap (λ z. can_change p (slice_get kinds) (field_at g from.next) (old y) z) d_is
+          ∙ field_changes g y from.next (get_or from.at.vars y 0) (get_or from.at.fields g 0) e there value))
+      (λ m. meaning m ∙ ap (λ z. is_through m z && is_changed m r (m.refs z 0) b d) a_is
+          ∙ three (λ u v w. is_through m (old x) && is_changed m u (m.refs (old x) 0) v w) r b d (field_at g from.next) (old y) (relation_at from.at (what.Field g)) r_is b_is d_is))

@@ -57,17 +57,13 @@ module _ (p : Posed) (kinds : Kinds) (m : Reading) (of : IsOf p kinds m) where
   no_flag r o not_here = false_from_ne_true (m.flag r o) (λ has. false≢true (sym not_here ∙ of.flags r o has))
 
   pub no_number : (r : RelVar) (o : ℕ) → has_place p kinds AsNumber r o ≡ false → has_place p kinds AsClass r o ≡ false → m.number r o ≡ pos 0
-  no_number r o not_number not_class = elim (or_cases (int_eq z (pos 0) || (has_place p kinds AsNumber r o && in_bits p.scope.ints z)) (has_place p kinds AsClass r o && is_class_number p z) (of.numbers r o)) [
-    | inl first ↦ elim (or_cases (int_eq z (pos 0)) (has_place p kinds AsNumber r o && in_bits p.scope.ints z) first) [
-        | inl zero ↦ int_same z (pos 0) zero
-        | inr number ↦ absurd (false≢true (sym not_number ∙ (and_parts (has_place p kinds AsNumber r o) (in_bits p.scope.ints z) number).0))
+  no_number r o not_number not_class = elim (or_cases (int_eq (m.number r o) (pos 0) || (has_place p kinds AsNumber r o && in_bits p.scope.ints (m.number r o))) (has_place p kinds AsClass r o && is_class_number p (m.number r o)) (of.numbers r o)) [
+    | inl first ↦ elim (or_cases (int_eq (m.number r o) (pos 0)) (has_place p kinds AsNumber r o && in_bits p.scope.ints (m.number r o)) first) [
+        | inl zero ↦ int_same (m.number r o) (pos 0) zero
+        | inr number ↦ absurd (false≢true (sym not_number ∙ (and_parts (has_place p kinds AsNumber r o) (in_bits p.scope.ints (m.number r o)) number).0))
       ]
-    | inr class ↦ absurd (false≢true (sym not_class ∙ (and_parts (has_place p kinds AsClass r o) (is_class_number p z) class).0))
+    | inr class ↦ absurd (false≢true (sym not_class ∙ (and_parts (has_place p kinds AsClass r o) (is_class_number p (m.number r o)) class).0))
   ]
-    where
-      abbrev z : ℤ
-      z = m.number r o
-
   not_below : (u : Use) (r : RelVar) (o : ℕ) → nat_lt o p.scope.objects ≡ false → has_place p kinds u r o ≡ false
   not_below u r o beyond = false_from_ne_true (has_place p kinds u r o) (λ is.
       let front = and_parts (has_use p kinds u r.what && nat_lt o p.scope.objects) (not (is_slot r.what) || o == 0) is in
@@ -76,8 +72,8 @@ module _ (p : Posed) (kinds : Kinds) (m : Reading) (of : IsOf p kinds m) where
   pub not_used : (u used : Use) (r : RelVar) (o : ℕ) → use_of p kinds r.what ≡ Some used → same_use u used ≡ false → has_place p kinds u r o ≡ false
   not_used u used r o is other = false_from_ne_true (has_place p kinds u r o) (λ has.
       let front = and_parts (has_use p kinds u r.what && nat_lt o p.scope.objects) (not (is_slot r.what) || o == 0) has in
-      let use = (and_parts (has_use p kinds u r.what) (nat_lt o p.scope.objects) front.0).0 in
-      false≢true (sym (ap (λ w. option_map_or (same_use u) w false) is ∙ other) ∙ use))
+      let used_here = (and_parts (has_use p kinds u r.what) (nat_lt o p.scope.objects) front.0).0 in
+      false≢true (sym (ap (λ w. option_map_or (same_use u) w false) is ∙ other) ∙ used_here))
 
   -- two relations have nothing at a place beyond K
   pub beyond_alike : (r q : RelVar) (o i : ℕ) → nat_lt o p.scope.objects ≡ false → nat_lt i p.scope.objects ≡ false → IsAlikeAt m r o m q i
@@ -99,14 +95,11 @@ module _ (p : Posed) (kinds : Kinds) (m : Reading) (of : IsOf p kinds m) where
     flag = flag_same (m.flag r o) (m.flag q i) both.1;
   }
     where
-      abbrev refs_same : Bool
-      refs_same = list_all (λ v. same_flag (m.refs r o v) (m.refs q i v)) (references m.objects)
+      both : (((list_all (λ v. same_flag (m.refs r o v) (m.refs q i v)) (references m.objects)) && int_eq (m.number r o) (m.number q i)) ≡ true) × (same_flag (m.flag r o) (m.flag q i) ≡ true)
+      both = and_parts ((list_all (λ v. same_flag (m.refs r o v) (m.refs q i v)) (references m.objects)) && int_eq (m.number r o) (m.number q i)) (same_flag (m.flag r o) (m.flag q i)) is
 
-      both : ((refs_same && int_eq (m.number r o) (m.number q i)) ≡ true) × (same_flag (m.flag r o) (m.flag q i) ≡ true)
-      both = and_parts (refs_same && int_eq (m.number r o) (m.number q i)) (same_flag (m.flag r o) (m.flag q i)) is
-
-      front : (refs_same ≡ true) × (int_eq (m.number r o) (m.number q i) ≡ true)
-      front = and_parts refs_same (int_eq (m.number r o) (m.number q i)) both.0
+      front : ((list_all (λ v. same_flag (m.refs r o v) (m.refs q i v)) (references m.objects)) ≡ true) × (int_eq (m.number r o) (m.number q i) ≡ true)
+      front = and_parts (list_all (λ v. same_flag (m.refs r o v) (m.refs q i v)) (references m.objects)) (int_eq (m.number r o) (m.number q i)) both.0
 
       outside : (s : RelVar) (j : ℕ) (v : Value) → is_reference m.objects v ≡ false → m.refs s j v ≡ false
       outside s j v not_there = false_from_ne_true (m.refs s j v) (λ has. false≢true (sym not_there ∙ refs_within p kinds m of s j v has))

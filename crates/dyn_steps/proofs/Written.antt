@@ -305,25 +305,35 @@ module _ (p : Posed) (kinds : List Kind) (from : Front) (g : ℕ) (d : FieldDef)
         at (Num z) is ends = absurd (none_some ends)
         at (Flag b) is ends = absurd (none_some ends)
 
+    -- the reading of the state afterwards at one place, and what the relations had at all others
+    abbrev at_place : ℕ → RelVar → ℕ → Bool
+    at_place o r q = q == o
+
+    abbrev chosen_at : Reading → DynState → ℕ → Reading
+    chosen_at m t o = spliced (at_place o) (state_reading p kinds t) (moved (index_of from.at) m)
+
+    abbrev reading_at : Reading → DynState → ℕ → Reading
+    reading_at m t o = renewed from.next (chosen_at m t o) m
+
     write_full : (m : Reading) (s t : DynState) → Of m → HasKinds p kinds s → Before m s → Acts p (Write x g y) s t → GoesOn p kinds after m from.next (field_set from g f) t
     write_full m s t of has shown run = record {
-      reading = reading;
+      reading = (reading_at m t w.place);
       of_problem = reading_of;
       agrees = agrees;
-      shown = written_shown reading s t w shown_on here_on apart_on;
+      shown = written_shown (reading_at m t w.place) s t w shown_on here_on apart_on;
       holds = λ u is agree.
-          let near : Agree from.next reading u = agree_less from.next (from.next + 1) reading u (omega arith) agree in
-          let shown_u : Before u s = shows_move p kinds before reading u from.at from.at s (is.objects ∙ sym reading_of.objects) (λ z looked. agree_at p kinds from.next from.at reading u point near z) shown_on in
-          let new_u : IsAlike reading new u new = agree new (omega arith) in
+          let near : Agree from.next (reading_at m t w.place) u = agree_less from.next (from.next + 1) (reading_at m t w.place) u (omega arith) agree in
+          let shown_u : Before u s = shows_move p kinds before (reading_at m t w.place) u from.at from.at s (is.objects ∙ sym reading_of.objects) (λ z looked. agree_at p kinds from.next from.at (reading_at m t w.place) u point near z) shown_on in
+          let new_u : IsAlike (reading_at m t w.place) new u new = agree new (omega arith) in
           let null : u.refs through 0 Null ≡ false = (object_shown u s shown_u).1 Null ∙ ap (λ v. is_value v Null) w.is_object in
           meaning u ∙ and_from (is_through u through) (is_changed u new (u.refs through 0) given old) (through_is u through ∙ ap not null)
           (changed_from p (slice_get kinds) u is new (u.refs through 0) given old
           (λ q below one.
               let same : w.place ≡ q = eqb-true w.place q (sym (alone u s w.place w.is_object shown_u q) ∙ one) in
-              subst (λ i. IsAlikeAt u given 0 u new i) same (place_on (place_back (place_of (agree_at p kinds from.next from.at reading u point near (what.Slot y)) 0)) (place_on here_on (place_of new_u w.place))))
+              subst (λ i. IsAlikeAt u given 0 u new i) same (place_on (place_back (place_of (agree_at p kinds from.next from.at (reading_at m t w.place) u point near (what.Slot y)) 0)) (place_on here_on (place_of new_u w.place))))
           (λ q lacks.
               let other : q ≡ w.place → ⊥ = λ same. false≢true (sym lacks ∙ alone u s w.place w.is_object shown_u q ∙ eq-eqb w.place q (sym same)) in
-              place_on (place_back (place_of (agree_at p kinds from.next from.at reading u point near (what.Field g)) q)) (place_on (apart_on q other) (place_of new_u q))));
+              place_on (place_back (place_of (agree_at p kinds from.next from.at (reading_at m t w.place) u point near (what.Field g)) q)) (place_on (apart_on q other) (place_of new_u q))));
     }
       where
         w : Writes s t
@@ -332,32 +342,23 @@ module _ (p : Posed) (kinds : List Kind) (from : Front) (g : ℕ) (d : FieldDef)
         has_after : HasKinds p kinds t
         has_after = keeps s t has run
 
-        abbrev is_place : RelVar → ℕ → Bool
-        is_place r q = q == w.place
+        reading_of : Of (reading_at m t w.place)
+        reading_of = renewed_of p (slice_get kinds) from.next (chosen_at m t w.place) m (spliced_of p (slice_get kinds) (at_place w.place) (state_reading p kinds t) (moved (index_of from.at) m) (state_of p kinds t well range has_after) (moved_of p (slice_get kinds) (index_of from.at) m of)) of
 
-        abbrev chosen : Reading
-        chosen = spliced is_place (state_reading p kinds t) (moved (index_of from.at) m)
+        agrees : Agree from.next m (reading_at m t w.place)
+        agrees = renewed_old from.next (chosen_at m t w.place) m
 
-        abbrev reading : Reading
-        reading = renewed from.next chosen m
+        shown_on : Before (reading_at m t w.place) s
+        shown_on = shows_move p kinds before m (reading_at m t w.place) from.at from.at s refl (λ z looked. agree_at p kinds from.next from.at m (reading_at m t w.place) point agrees z) shown
 
-        reading_of : Of reading
-        reading_of = renewed_of p (slice_get kinds) from.next chosen m (spliced_of p (slice_get kinds) is_place (state_reading p kinds t) (moved (index_of from.at) m) (state_of p kinds t well range has_after) (moved_of p (slice_get kinds) (index_of from.at) m of)) of
+        new_on : IsAlike (chosen_at m t w.place) new (reading_at m t w.place) new
+        new_on = renewed_new from.next (chosen_at m t w.place) m new refl
 
-        agrees : Agree from.next m reading
-        agrees = renewed_old from.next chosen m
-
-        shown_on : Before reading s
-        shown_on = shows_move p kinds before m reading from.at from.at s refl (λ z looked. agree_at p kinds from.next from.at m reading point agrees z) shown
-
-        new_on : IsAlike chosen new reading new
-        new_on = renewed_new from.next chosen m new refl
-
-        apart_on : (q : ℕ) → (q ≡ w.place → ⊥) → IsAlikeAt reading old q reading new q
+        apart_on : (q : ℕ) → (q ≡ w.place → ⊥) → IsAlikeAt (reading_at m t w.place) old q (reading_at m t w.place) new q
         apart_on q other =
-            place_on (place_back (place_of (agree_at p kinds from.next from.at m reading point agrees (what.Field g)) q))
+            place_on (place_back (place_of (agree_at p kinds from.next from.at m (reading_at m t w.place) point agrees (what.Field g)) q))
             (place_on (place_of (moved_alike (index_of from.at) m new) q)
-            (place_on (spliced_second is_place (state_reading p kinds t) (moved (index_of from.at) m) new q (ne_eqb q w.place other)) (place_of new_on q)))
+            (place_on (spliced_second (at_place w.place) (state_reading p kinds t) (moved (index_of from.at) m) new q (ne_eqb q w.place other)) (place_of new_on q)))
 
         there_object : is_of t.objects d.class w.place ≡ true
         there_object =
@@ -371,14 +372,14 @@ module _ (p : Posed) (kinds : List Kind) (from : Front) (g : ℕ) (d : FieldDef)
             let both : (w.place == w.place && g == g) ≡ true = and_from (w.place == w.place) (g == g) (eq-eqb w.place w.place refl) (eq-eqb g g refl) in
             ap (λ (z : DynState). field p.unit.classes z.objects g (Obj w.place)) (sym w.ends) ∙ put_field w.put g w.place ∙ ap (λ b. if b then Is (var_at s.vars y) else field p.unit.classes s.objects g (Obj w.place)) both
 
-        here_on : IsAlikeAt reading given 0 reading new w.place
+        here_on : IsAlikeAt (reading_at m t w.place) given 0 (reading_at m t w.place) new w.place
         here_on =
             let at_state : ShowsValue (state_reading p kinds t) d.kind new w.place (var_at s.vars y) = state_cell p kinds t well range has_after g d w.place from.next (var_at s.vars y) there there_object gives_value in
-            let at_chosen = place_on (spliced_first is_place (state_reading p kinds t) (moved (index_of from.at) m) new w.place (eq-eqb w.place w.place refl)) (place_of new_on w.place) in
-            shown_alike p (slice_get kinds) reading reading reading_of reading_of d.kind given 0 new w.place (var_at s.vars y)
+            let at_chosen = place_on (spliced_first (at_place w.place) (state_reading p kinds t) (moved (index_of from.at) m) new w.place (eq-eqb w.place w.place refl)) (place_of new_on w.place) in
+            shown_alike p (slice_get kinds) (reading_at m t w.place) (reading_at m t w.place) reading_of reading_of d.kind given 0 new w.place (var_at s.vars y)
             (ap (option_map use_of_kind) value) (ap (option_map (λ (e : FieldDef). use_of_kind e.kind)) there)
-            (value_shown reading s shown_on)
-            (place_moves (state_reading p kinds t) new w.place reading new w.place d.kind (var_at s.vars y) of.objects at_chosen at_state)
+            (value_shown (reading_at m t w.place) s shown_on)
+            (place_moves (state_reading p kinds t) new w.place (reading_at m t w.place) new w.place d.kind (var_at s.vars y) of.objects at_chosen at_state)
 
     write_path : IsPath p kinds before after (Acts p (Write x g y)) from (field_set from g f)
     write_path = record {

@@ -1,15 +1,22 @@
 -- What the formulas of single actions mean under a reading. (This project's own.)
-use Rattle.std.specs.Prelude.{ℕ, ℤ, pos, int_lt, Bool, true, false, not, ◌&&◌, Option, Some}
+use Rattle.std.specs.Prelude.{ℕ, ◌+◌, ◌-◌, ◌==◌, ℤ, pos, int_lt, Bool, true, false, not, ◌&&◌, ◌||◌, List, slice_get, Option, Some}
+use Rattle.std.specs.List.{list_all}
 use Rattle.std.specs.Ordering.{int_eq}
 use Rattle.std.specs.Option.{option_map_or}
 use Rattle.taco_unit.specs.declared.kind.Kind.{Kind}
 use Rattle.taco_unit.specs.declared.kind.Kind.TheVariants as kind
+use Rattle.taco_unit.specs.declared.unit.FieldDef.{FieldDef}
 use Rattle.heap_core.specs.declared.value.Value.{Value}
 use Rattle.heap_core.specs.declared.value.Value.TheVariants.{Null, Obj, Num, Flag}
-use Rattle.heap_core.specs.Outcomes.{is_null, same_flag}
+use Rattle.heap_core.specs.Outcomes.{is_null, is_object, same_flag}
+use Rattle.heap_core.specs.Posed.{Posed}
 use Rattle.rel_core.specs.declared.relation.RelVar.{RelVar}
-use Rattle.rel_core.specs.Reading.{Reading}
-use Rattle.rel_core.specs.Meaning.{ValueSet, joined, only_object, fitting, with_both, is_subset}
+use Rattle.rel_core.specs.declared.relation.What.{What}
+use Rattle.rel_core.specs.declared.relation.What.TheVariants as what
+use Rattle.rel_core.specs.Reading.{Reading, numbers_below}
+use Rattle.rel_core.specs.Meaning.{ValueSet, joined, only_object, fitting, with_both, is_subset, are_of, is_changed}
+use Rattle.dyn_steps.specs.declared.point.Point.{Point}
+use Rattle.dyn_steps.specs.Points.{index_of, relation_at, slot}
 
 -- two sets have the same references
 abbrev pub same_sets : Reading → ValueSet → ValueSet → Bool
@@ -41,3 +48,44 @@ abbrev pub is_cell : Reading → Kind → RelVar → RelVar → RelVar → Bool
 is_cell m kind.Int r object f = int_eq (m.number r 0) (option_map_or (m.number f) (only_object m (m.refs object 0)) (pos 0))
 is_cell m kind.Flag r object f = same_flag (m.flag r 0) (option_map_or (m.flag f) (only_object m (m.refs object 0)) false)
 is_cell m (kind.Ref c) r object f = same_sets m (m.refs r 0) (joined m (m.refs object 0) f)
+
+-- ## a new object
+
+-- a flag of a relation at the object of this number
+abbrev pub there : Reading → RelVar → ℕ → Bool
+there m live o = option_map_or (m.flag live) (only_object m (is_object o)) false
+
+-- the object of this number is not there, and the one before it is
+abbrev pub is_next : Reading → RelVar → ℕ → Bool
+is_next m live o = not (there m live o) && (o == 0 || there m live (o - 1))
+
+-- a variable is the object of this number, where that is the next
+abbrev pub is_placed : Reading → RelVar → RelVar → ℕ → Bool
+is_placed m r live o = not (is_next m live o) || same_sets m (m.refs r 0) (is_object o)
+
+-- a relation has at place 0 the value with which fields of this kind begin
+abbrev pub is_first : Reading → Kind → RelVar → Bool
+is_first m kind.Int r = with_both (Some (option_map_or (m.number r) (only_object m (is_object 0)) (pos 0))) (fitting m.ints (pos 0)) int_eq false
+is_first m kind.Flag r = not (there m r 0)
+is_first m (kind.Ref c) r = same_sets m (joined m (is_object 0) r) is_null
+
+-- a relation is another, but that at the object of a variable it has what a third has at place 0
+abbrev pub is_grown : Reading → RelVar → What → ℕ → ℕ → Bool
+is_grown m r w n old = is_changed m (record { what = w; index = n }) (m.refs r 0) (record { what = w; index = n + 1 }) (record { what = w; index = old })
+
+-- the kind of a field, where the unit has it
+abbrev pub field_kind : List FieldDef → ℕ → Kind
+field_kind fields f = option_map_or (λ d. d.kind) (slice_get fields f) kind.Int
+
+-- a field of the class has its first value at a new object
+abbrev pub field_grown : Reading → List FieldDef → Point → ℕ → RelVar → ℕ → Bool
+field_grown m fields at n r f = is_first m (field_kind fields f) (record { what = what.Field f; index = n + 1 }) && is_grown m r (what.Field f) n (index_of at (what.Field f))
+
+-- there is room, the variable is the next object, and it is there, of its class and with its fields' first values
+abbrev pub is_made : Reading → Posed → Point → ℕ → ℕ → ℕ → List ℕ → Bool
+is_made m p at n x c fs =
+    not (there m (relation_at at what.Live) (p.scope.objects - 1))
+    && list_all (is_placed m (slot x n) (relation_at at what.Live)) (numbers_below p.scope.objects)
+    && (there m (record { what = what.Live; index = n + 1 }) 0 && is_grown m (slot x n) what.Live n at.live)
+    && (are_of m (is_object 0) c (record { what = what.ClassOf; index = n + 1 }) && is_grown m (slot x n) what.ClassOf n at.live)
+    && list_all (field_grown m p.unit.fields at n (slot x n)) fs

@@ -1,8 +1,9 @@
 -- Path formulas: when a formula, with the indices at which it begins and ends, is one of a relation on states.
 -- (The TACO article's translation of programs, with states as indexed variables; that existence is said of every
 -- reading that agrees below the next index is this project's own.)
-use Rattle.std.specs.Prelude.{◌≡◌, ◌⊎◌, ℕ, ◌+◌, ◌≤◌, Bool, List, slice_get, Some, IsTrue}
+use Rattle.std.specs.Prelude.{◌≡◌, ◌⊎◌, ◌↔◌, ℕ, ◌+◌, ◌≤◌, Bool, List, slice_get, Some, IsTrue}
 use Rattle.taco_unit.specs.declared.kind.Kind.{Kind}
+use Rattle.taco_unit.specs.declared.kind.Kind.TheVariants as kind
 use Rattle.heap_core.specs.declared.value.Value.TheVariants.{Flag}
 use Rattle.heap_core.specs.Posed.{Posed}
 use Rattle.rel_core.specs.declared.formula.Formula.{Formula}
@@ -15,13 +16,13 @@ use Rattle.dyn_core.specs.declared.prog.Act.{Act}
 use Rattle.dyn_core.specs.declared.state.DynState.{DynState}
 use Rattle.dyn_core.specs.States.{var_at}
 use Rattle.dyn_core.specs.Actions.{acted}
-use Rattle.dyn_core.specs.Kinds.{is_kinded_act, HasKinds}
+use Rattle.dyn_core.specs.Kinds.{is_var, is_kinded_act, HasKinds}
 use Rattle.dyn_steps.specs.declared.point.Point.{Point}
 use Rattle.dyn_steps.specs.declared.part.Front.{Front}
 use Rattle.dyn_steps.specs.declared.part.Part.{Part}
-use Rattle.dyn_steps.specs.Points.{index_of, indices_of, var_moved, field_moved, IsPoint}
-use Rattle.dyn_steps.specs.Agreeing.{Agree}
-use Rattle.dyn_steps.specs.Looked.{Vars, kinds_in, looked_at}
+use Rattle.dyn_steps.specs.Points.{index_of, indices_of, var_moved, field_moved, made_point, IsPoint}
+use Rattle.dyn_steps.specs.Agreeing.{IsAlike, Agree}
+use Rattle.dyn_steps.specs.Looked.{Vars, with_one, kinds_in, looked_at}
 
 -- a state of a program, as readings show it
 abbrev pub state_in : DynState → State
@@ -92,3 +93,23 @@ var_set from x f = record { formula = f; end = record { at = var_moved from.at x
 -- a part that gives a field the next index
 abbrev pub field_set : Front → ℕ → Formula → Part
 field_set from g f = record { formula = f; end = record { at = field_moved from.at g from.next; next = from.next + 1 } }
+
+-- the part of a test, whatever is looked at after it: it stays where it is
+abbrev pub IsTest : Posed → List Kind → ℕ → Bool → Front → Part → Type 0
+IsTest p kinds x b from part =
+    IsTrue (is_var kinds x kind.Flag)
+    → IsPoint p kinds from.next from.at
+    → (after : Vars)
+    → IsPath p kinds (with_one x after) after (Passes x b) from part
+
+-- the formula says that one relation is the same at two indices
+pub record IsSameness (p : Posed) (kinds : List Kind) (w : What) (new old : ℕ) (f : Formula) : Type 0 where
+  pub sorted : IsTrue (is_sorted p (slice_get kinds) f)
+  pub meaning :
+      (m : Reading)
+      → IsOf p (slice_get kinds) m
+      → IsTrue (holds f m) ↔ IsAlike m (record { what = w; index = old }) m (record { what = w; index = new })
+
+-- the part of a new object: its relations have the next index, and the values with which they begin the one behind it
+abbrev pub made_set : Front → ℕ → List ℕ → Formula → Part
+made_set from x fs f = record { formula = f; end = record { at = made_point from.at x fs from.next; next = from.next + 1 + 1 } }

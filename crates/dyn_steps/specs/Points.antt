@@ -43,3 +43,16 @@ pub record IsPoint (p : Posed) (kinds : List Kind) (n : ℕ) (at : Point) : Type
 -- the relation of a variable at an index
 abbrev pub slot : ℕ → ℕ → RelVar
 slot x i = record { what = what.Slot x; index = i }
+
+-- the relation of a field at an index
+abbrev pub field_at : ℕ → ℕ → RelVar
+field_at f i = record { what = what.Field f; index = i }
+
+-- with another index for each of these fields
+abbrev pub fields_moved : Point → List ℕ → ℕ → Point
+fields_moved at [] i = at
+fields_moved at (f ∷ fs) i = fields_moved (field_moved at f i) fs i
+
+-- with another index for what a new object of a class changes, and for a variable
+abbrev pub made_point : Point → ℕ → List ℕ → ℕ → Point
+made_point at x fs n = var_moved (record (fields_moved at fs n) { live = n }) x n

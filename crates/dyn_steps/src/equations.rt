@@ -100,7 +100,7 @@ fn is_this_number(
 }
 
 /// A variable is this truth value.
-fn is_this_flag(
+pub(crate) fn is_this_flag(
     alloc: Global,
     variable: RelVar,
     truth: bool,

@@ -2,10 +2,14 @@
 #![tactic(auto)]
 
 mod equations;
+mod heap_steps;
 mod part;
 mod point;
+mod sameness;
 mod setting;
 
+pub use heap_steps::write;
 pub use part::{Basis, Front, Part};
 pub use point::Point;
+pub use sameness::{same_relation, test};
 pub use setting::{below, constant, copy, difference, product, read, same, sum};
