@@ -53,7 +53,7 @@ others_in x vars y inside apart = and_from (not (y == x)) (vars y) (ap not (ne_e
 
 -- ## uses
 
-use_self : (u : Use) → same_use u u ≡ true
+pub use_self : (u : Use) → same_use u u ≡ true
 use_self AsSet = refl
 use_self AsNumber = refl
 use_self AsFlag = refl

@@ -11,3 +11,4 @@ pub mod Places
 pub mod Written
 pub mod Parts
 pub mod Tested
+pub mod MovedFields

@@ -105,7 +105,7 @@ implies_self true false same = absurd (false≢true (sym same))
 subset_has : (m : Reading) (s t : ValueSet) → IsWithin m.objects s → is_subset m s t ≡ true → (v : Value) → s v ≡ true → t v ≡ true
 subset_has m s t within is v has = implied (s v) (t v) (reference_has (λ v. not (s v) || t v) m.objects v is (within v has)) has
 
-both_ways : (a b : Bool) → (a ≡ true → b ≡ true) → (b ≡ true → a ≡ true) → a ≡ b
+pub both_ways : (a b : Bool) → (a ≡ true → b ≡ true) → (b ≡ true → a ≡ true) → a ≡ b
 both_ways true b on back = sym (on refl)
 both_ways false true on back = back refl
 both_ways false false on back = refl

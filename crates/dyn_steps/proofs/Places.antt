@@ -32,8 +32,8 @@ place_back a = record { refs = λ v. sym (a.refs v); number = sym a.number; flag
 pub place_on : {m : Reading} {r : RelVar} {o : ℕ} {u : Reading} {q : RelVar} {i : ℕ} {n : Reading} {s : RelVar} {j : ℕ} → IsAlikeAt m r o u q i → IsAlikeAt u q i n s j → IsAlikeAt m r o n s j
 place_on a b = record { refs = λ v. b.refs v ∙ a.refs v; number = b.number ∙ a.number; flag = b.flag ∙ a.flag }
 
-pub place_of : {m : Reading} {r : RelVar} {u : Reading} {q : RelVar} → IsAlike m r u q → (o : ℕ) → IsAlikeAt m r o u q o
-place_of a o = record { refs = a.refs o; number = a.number o; flag = a.flag o }
+pub place_at : {m : Reading} {r : RelVar} {u : Reading} {q : RelVar} → IsAlike m r u q → (o : ℕ) → IsAlikeAt m r o u q o
+place_at a o = record { refs = a.refs o; number = a.number o; flag = a.flag o }
 
 pub all_places : (m : Reading) (r : RelVar) (u : Reading) (q : RelVar) → ((o : ℕ) → IsAlikeAt m r o u q o) → IsAlike m r u q
 all_places m r u q each = record { refs = λ o. (each o).refs; number = λ o. (each o).number; flag = λ o. (each o).flag }
@@ -148,7 +148,7 @@ module _ (p : Posed) (kinds : Kinds) (m : Reading) (of : IsOf p kinds m) where
   changed_alike new old is = all_places m old m new (λ o. changed_apart new is_null old old is o refl)
 
   pub alike_changed : (new old : RelVar) → IsAlike m old m new → is_changed m new is_null old old ≡ true
-  alike_changed new old alike = changed_from new is_null old old (λ o low has. absurd (false≢true has)) (λ o lacks. place_of alike o)
+  alike_changed new old alike = changed_from new is_null old old (λ o low has. absurd (false≢true has)) (λ o lacks. place_at alike o)
 
 -- ## one value at two places
 

@@ -1,7 +1,8 @@
 -- The part of a test, parts with other sets of variables, and one relation at two indices.
-use Rattle.std.proofs.Common.{◌≡◌, ◌⊎◌, ℕ, ◌≤◌, Bool, true, false, ◌&&◌, List, Option, Some, None, inl, inr, refl, sym, ◌∙◌, ap, subst, arith}
-use Rattle.std.specs.Prelude.{◌==◌, ◌↔◌, nat_lt, pos, slice_get, option_map}
-use Rattle.std.proofs.lemmas.Bool.{cases_eq, and_parts, eqb-true, false_from_ne_true}
+use Rattle.std.proofs.Common.{◌≡◌, ◌⊎◌, ℕ, ◌≤◌, Bool, true, false, ◌&&◌, List, Option, Some, None, inl, inr, refl, sym, ◌∙◌, ap, subst, arith, get_or}
+use Rattle.std.specs.Prelude.{◌==◌, ◌↔◌, nat_lt, pos, slice_get, is_some, option_map}
+use Rattle.std.specs.Option.{option_map_or}
+use Rattle.std.proofs.lemmas.Bool.{cases_eq, and_parts, and_from, eqb-true, eq-eqb, false≢true, false_from_ne_true}
 use Rattle.taco_unit.specs.declared.kind.Kind.{Kind}
 use Rattle.taco_unit.specs.declared.kind.Kind.TheVariants as kind
 use Rattle.heap_core.specs.declared.value.Value.{Value}
@@ -14,7 +15,7 @@ use Rattle.rel_core.specs.declared.relation.What.{What}
 use Rattle.rel_core.specs.declared.relation.What.TheVariants as what
 use Rattle.rel_core.specs.Reading.{Reading}
 use Rattle.rel_core.specs.Meaning.{is_changed, holds}
-use Rattle.rel_core.specs.Uses.{Kinds, Use, AsSet, AsNumber, AsFlag, AsClass, same_use, use_of_kind, has_use, has_place, is_variable, is_sorted, IsOf}
+use Rattle.rel_core.specs.Uses.{Kinds, Use, AsSet, AsNumber, AsFlag, AsClass, same_use, use_of_kind, use_of, has_use, can_change, is_slot, has_place, is_variable, is_sorted, IsOf}
 use Rattle.rel_core.specs.Shown.{ShowsValue}
 use Rattle.dyn_core.specs.declared.state.DynState.{DynState}
 use Rattle.dyn_core.specs.States.{var_at}
@@ -30,8 +31,8 @@ use Rattle.dyn_steps.specs.Paths.{Shows, Relation, Passes, GoesOn, IsPath, IsTes
 use Rattle.dyn_steps.proofs.Moving.{alike_self, agree_at, ShowsVars, shows_both, vars_shown, shows_move}
 use Rattle.dyn_steps.proofs.Saying.{int_same, same_int, flag_same, same_flags, refs_within}
 use Rattle.dyn_steps.proofs.Numbers.{sets_alike, sets_same}
-use Rattle.dyn_steps.proofs.Acts.{one_in, more_in, variable_used, kind_known}
-use Rattle.dyn_steps.proofs.Places.{IsAlikeAt, place_of, all_places, no_refs, no_flag, no_number, not_used, changed_alike, alike_changed}
+use Rattle.dyn_steps.proofs.Acts.{one_in, more_in, use_self as same_self, variable_used, kind_known}
+use Rattle.dyn_steps.proofs.Places.{IsAlikeAt, place_at, all_places, no_refs, no_flag, no_number, not_used, changed_alike, alike_changed}
 
 -- ## sets of variables
 
@@ -103,7 +104,7 @@ pub test_part :
 test_part from part f x b r r_is is meaning sorted p kinds =
     subst (λ z. IsTest p kinds x b from z) (sym is)
     (test_path p kinds from f x b (λ m. meaning m ∙ ap (λ z. same_flag (m.flag z 0) b) r_is)
-    (λ known. sorted p (slice_get kinds) (ap (λ z. is_variable p (slice_get kinds) AsFlag z) r_is ∙ variable_used p kinds x _ kind.Flag known)))
+    (λ known. sorted p (slice_get kinds) (ap (λ z. is_variable p (slice_get kinds) AsFlag z) r_is ∙ variable_used p kinds x (get_or from.at.vars x 0) kind.Flag known)))
 
 -- ## one relation at two indices
 
@@ -187,3 +188,50 @@ spread_sameness p kinds w new old f meaning sorted = record {
       (λ true_here. changed_alike p (slice_get kinds) m of (record { what = w; index = new }) (record { what = w; index = old }) (sym (meaning m) ∙ true_here),
       λ alike. meaning m ∙ alike_changed p (slice_get kinds) m of (record { what = w; index = new }) (record { what = w; index = old }) alike);
 }
+
+-- of a variable, by what was promised of the formula
+pub slot_part :
+    (p : Posed) (kinds : List Kind) (w : What) (x new old : ℕ) (k : Kind) (left right : RelVar) (f : Formula)
+    → w ≡ what.Slot x → k ≡ kind_at kinds x → left ≡ slot x new → right ≡ slot x old
+    → ((m : Reading) → holds f m ≡ same_variables m k left right)
+    → ((p : Posed) (kinds : Kinds) → is_variable p kinds (use_of_kind k) left ≡ true → is_variable p kinds (use_of_kind k) right ≡ true → is_sorted p kinds f ≡ true)
+    → is_some (use_of p (slice_get kinds) w) ≡ true
+    → IsSameness p kinds w new old f
+slot_part p kinds w x new old k left right f is kind_is left_is right_is meaning sorted known =
+    subst (λ z. IsSameness p kinds z new old f) (sym is) (at (slice_get kinds x) refl (sym (ap (λ z. is_some (use_of p (slice_get kinds) z)) is) ∙ known))
+  where
+    there : (j : Kind) → slice_get kinds x ≡ Some j → IsSameness p kinds (what.Slot x) new old f
+    there j has =
+        let same : k ≡ j = kind_is ∙ kind_known kinds x j has in
+        slot_sameness p kinds x new old j f has
+        (λ m. meaning m ∙ ap (λ z. same_variables m z left right) same ∙ ap (λ z. same_variables m j z right) left_is ∙ ap (λ z. same_variables m j (slot x new) z) right_is)
+        (sorted p (slice_get kinds)
+        (ap (λ z. is_variable p (slice_get kinds) (use_of_kind z) left) same ∙ ap (λ z. is_variable p (slice_get kinds) (use_of_kind j) z) left_is ∙ variable_used p kinds x new j has)
+        (ap (λ z. is_variable p (slice_get kinds) (use_of_kind z) right) same ∙ ap (λ z. is_variable p (slice_get kinds) (use_of_kind j) z) right_is ∙ variable_used p kinds x old j has))
+
+    at : (j : Option Kind) → slice_get kinds x ≡ j → is_some (option_map use_of_kind j) ≡ true → IsSameness p kinds (what.Slot x) new old f
+    at (Some j) has known = there j has
+    at None has known = absurd (false≢true known)
+
+-- a relation that is of no variable can be the same at another index
+copy_changes : (p : Posed) (kinds : Kinds) (w : What) (new old : ℕ) → is_slot w ≡ false → is_some (use_of p kinds w) ≡ true → can_change p kinds (record { what = w; index = new }) (record { what = w; index = old }) (record { what = w; index = old }) ≡ true
+copy_changes p kinds what.Live new old spread known = refl
+copy_changes p kinds what.ClassOf new old spread known = refl
+copy_changes p kinds (what.Field g) new old spread known =
+    and_from (g == g) (option_map_or (λ u. has_use p kinds u (what.Field g)) (use_of p kinds (what.Field g)) false) (eq-eqb g g refl) (at (use_of p kinds (what.Field g)) refl known)
+  where
+    at : (u : Option Use) → use_of p kinds (what.Field g) ≡ u → is_some u ≡ true → option_map_or (λ u. has_use p kinds u (what.Field g)) u false ≡ true
+    at (Some u) is known = ap (λ z. option_map_or (same_use u) z false) is ∙ same_self u
+    at None is known = absurd (false≢true known)
+copy_changes p kinds (what.Slot x) new old spread known = absurd (false≢true (sym spread))
+
+-- of any other
+pub spread_part :
+    (p : Posed) (kinds : List Kind) (w : What) (new old : ℕ) (f : Formula)
+    → is_slot w ≡ false
+    → ((m : Reading) → holds f m ≡ is_changed m (record { what = w; index = new }) is_null (record { what = w; index = old }) (record { what = w; index = old }))
+    → ((p : Posed) (kinds : Kinds) → can_change p kinds (record { what = w; index = new }) (record { what = w; index = old }) (record { what = w; index = old }) ≡ true → is_sorted p kinds f ≡ true)
+    → is_some (use_of p (slice_get kinds) w) ≡ true
+    → IsSameness p kinds w new old f
+spread_part p kinds w new old f spread meaning sorted known =
+    spread_sameness p kinds w new old f meaning (sorted p (slice_get kinds) (copy_changes p (slice_get kinds) w new old spread known))

@@ -50,7 +50,7 @@ use Rattle.dyn_steps.proofs.Numbers.{through_is}
 use Rattle.dyn_steps.proofs.Saying.{object_set, object_low}
 use Rattle.dyn_steps.proofs.SetVars.{state_reading, state_of, state_cell}
 use Rattle.dyn_steps.proofs.Acts.{one_in, more_in}
-use Rattle.dyn_steps.proofs.Places.{IsAlikeAt, place_back, place_on, place_of, place_moves, changed_here, changed_apart, changed_from, shown_alike}
+use Rattle.dyn_steps.proofs.Places.{IsAlikeAt, place_back, place_on, place_at, place_moves, changed_here, changed_apart, changed_from, shown_alike}
 
 -- ## a field at another index
 
@@ -330,10 +330,10 @@ module _ (p : Posed) (kinds : List Kind) (from : Front) (g : ℕ) (d : FieldDef)
           (changed_from p (slice_get kinds) u is new (u.refs through 0) given old
           (λ q below one.
               let same : w.place ≡ q = eqb-true w.place q (sym (alone u s w.place w.is_object shown_u q) ∙ one) in
-              subst (λ i. IsAlikeAt u given 0 u new i) same (place_on (place_back (place_of (agree_at p kinds from.next from.at (reading_at m t w.place) u point near (what.Slot y)) 0)) (place_on here_on (place_of new_u w.place))))
+              subst (λ i. IsAlikeAt u given 0 u new i) same (place_on (place_back (place_at (agree_at p kinds from.next from.at (reading_at m t w.place) u point near (what.Slot y)) 0)) (place_on here_on (place_at new_u w.place))))
           (λ q lacks.
               let other : q ≡ w.place → ⊥ = λ same. false≢true (sym lacks ∙ alone u s w.place w.is_object shown_u q ∙ eq-eqb w.place q (sym same)) in
-              place_on (place_back (place_of (agree_at p kinds from.next from.at (reading_at m t w.place) u point near (what.Field g)) q)) (place_on (apart_on q other) (place_of new_u q))));
+              place_on (place_back (place_at (agree_at p kinds from.next from.at (reading_at m t w.place) u point near (what.Field g)) q)) (place_on (apart_on q other) (place_at new_u q))));
     }
       where
         w : Writes s t
@@ -356,9 +356,9 @@ module _ (p : Posed) (kinds : List Kind) (from : Front) (g : ℕ) (d : FieldDef)
 
         apart_on : (q : ℕ) → (q ≡ w.place → ⊥) → IsAlikeAt (reading_at m t w.place) old q (reading_at m t w.place) new q
         apart_on q other =
-            place_on (place_back (place_of (agree_at p kinds from.next from.at m (reading_at m t w.place) point agrees (what.Field g)) q))
-            (place_on (place_of (moved_alike (index_of from.at) m new) q)
-            (place_on (spliced_second (at_place w.place) (state_reading p kinds t) (moved (index_of from.at) m) new q (ne_eqb q w.place other)) (place_of new_on q)))
+            place_on (place_back (place_at (agree_at p kinds from.next from.at m (reading_at m t w.place) point agrees (what.Field g)) q))
+            (place_on (place_at (moved_alike (index_of from.at) m new) q)
+            (place_on (spliced_second (at_place w.place) (state_reading p kinds t) (moved (index_of from.at) m) new q (ne_eqb q w.place other)) (place_at new_on q)))
 
         there_object : is_of t.objects d.class w.place ≡ true
         there_object =
@@ -375,7 +375,7 @@ module _ (p : Posed) (kinds : List Kind) (from : Front) (g : ℕ) (d : FieldDef)
         here_on : IsAlikeAt (reading_at m t w.place) given 0 (reading_at m t w.place) new w.place
         here_on =
             let at_state : ShowsValue (state_reading p kinds t) d.kind new w.place (var_at s.vars y) = state_cell p kinds t well range has_after g d w.place from.next (var_at s.vars y) there there_object gives_value in
-            let at_chosen = place_on (spliced_first (at_place w.place) (state_reading p kinds t) (moved (index_of from.at) m) new w.place (eq-eqb w.place w.place refl)) (place_of new_on w.place) in
+            let at_chosen = place_on (spliced_first (at_place w.place) (state_reading p kinds t) (moved (index_of from.at) m) new w.place (eq-eqb w.place w.place refl)) (place_at new_on w.place) in
             shown_alike p (slice_get kinds) (reading_at m t w.place) (reading_at m t w.place) reading_of reading_of d.kind given 0 new w.place (var_at s.vars y)
             (ap (option_map use_of_kind) value) (ap (option_map (λ (e : FieldDef). use_of_kind e.kind)) there)
             (value_shown (reading_at m t w.place) s shown_on)
