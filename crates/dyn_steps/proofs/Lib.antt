@@ -12,3 +12,4 @@ pub mod Written
 pub mod Parts
 pub mod Tested
 pub mod MovedFields
+pub mod Made

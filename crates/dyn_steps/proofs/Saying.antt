@@ -116,7 +116,7 @@ value_within k (Num z) is v has = absurd (false≢true is)
 value_within k (Flag b) is v has = absurd (false≢true is)
 
 -- a set of one reference
-says_set : (p : Posed) (kinds : Kinds) (m : Reading) → IsOf p kinds m → (c : ℕ) (r : RelVar) (t : ValueSet) (v : Value) → is_reference m.objects v ≡ true → ((u : Value) → t u ≡ is_value v u)
+pub says_set : (p : Posed) (kinds : Kinds) (m : Reading) → IsOf p kinds m → (c : ℕ) (r : RelVar) (t : ValueSet) (v : Value) → is_reference m.objects v ≡ true → ((u : Value) → t u ≡ is_value v u)
     → Says m (kind.Ref c) r (Is v) (same_sets m (m.refs r 0) t)
 says_set p kinds m of c r t v low one = record {
   sound = λ is. (v, refl, (low, λ u. sets_alike m (m.refs r 0) t (refs_within p kinds m of r 0) (λ w has. value_within m.objects v low w (sym (one w) ∙ has)) is u ∙ one u));

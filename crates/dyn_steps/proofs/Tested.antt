@@ -235,3 +235,9 @@ pub spread_part :
     → IsSameness p kinds w new old f
 spread_part p kinds w new old f spread meaning sorted known =
     spread_sameness p kinds w new old f meaning (sorted p (slice_get kinds) (copy_changes p (slice_get kinds) w new old spread known))
+
+pub not_slot : (w : What) → ((x : ℕ) → w ≡ what.Slot x → ⊥) → is_slot w ≡ false
+not_slot what.Live never = refl
+not_slot what.ClassOf never = refl
+not_slot (what.Field g) never = refl
+not_slot (what.Slot x) never = absurd (never x refl)

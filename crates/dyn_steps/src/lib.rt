@@ -3,6 +3,7 @@
 
 mod equations;
 mod heap_steps;
+mod making;
 mod part;
 mod point;
 mod sameness;
