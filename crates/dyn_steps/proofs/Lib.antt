@@ -13,3 +13,4 @@ pub mod Parts
 pub mod Tested
 pub mod MovedFields
 pub mod Made
+pub mod Growing

@@ -1,6 +1,6 @@
 -- Actions that set a variable to what an evaluation gives: from a formula that says so at the next index.
-use Rattle.std.proofs.Common.{◌≡◌, ◌⊎◌, ℕ, ◌+◌, ◌<◌, ◌≤◌, Bool, true, false, List, [], length, Some, None, refl, sym, ◌∙◌, ap, subst, inl, inr, arith, get_or}
-use Rattle.std.specs.Prelude.{slice_get, slice_set}
+use Rattle.std.proofs.Common.{◌≡◌, ◌⊎◌, ℕ, ◌+◌, ◌<◌, ◌≤◌, Bool, true, false, List, [], length, Option, Some, None, refl, sym, ◌∙◌, ap, subst, inl, inr, arith, get_or}
+use Rattle.std.specs.Prelude.{nat_lt, pos, slice_get, slice_set, option_map}
 use Rattle.std.proofs.lemmas.Bool.{cases_eq}
 use Rattle.std.proofs.lemmas.Option.{slice_get_within}
 use Rattle.std.proofs.lemmas.List.{length-set, get_or-set_same, get_or-set_other}
@@ -9,10 +9,11 @@ use Rattle.taco_unit.specs.Well.{IsWell}
 use Rattle.taco_unit.specs.declared.unit.FieldDef.{FieldDef}
 use Rattle.heap_core.specs.declared.value.Value.{Value}
 use Rattle.heap_core.specs.declared.value.Value.TheVariants.{Obj}
+use Rattle.heap_core.specs.declared.value.Object.{Object}
 use Rattle.heap_core.specs.declared.value.Seen.{Seen}
 use Rattle.heap_core.specs.declared.value.Seen.TheVariants.{Is, Bad, Out}
 use Rattle.heap_core.specs.Posed.{Posed, InRange}
-use Rattle.heap_core.specs.Heap.{is_of, field}
+use Rattle.heap_core.specs.Heap.{is_of, class_at, field}
 use Rattle.heap_core.proofs.FieldLaws.{none_some, some_same}
 use Rattle.rel_core.specs.declared.formula.Formula.{Formula}
 use Rattle.rel_core.specs.declared.relation.RelVar.{RelVar}
@@ -86,6 +87,17 @@ state_cell p kinds t well range has g d o n v there of gives =
   where
     is_same : {u v : Value} → Is u ≡ Is v → u ≡ v
     is_same is = cc
+
+-- which objects are there, and of which class each is
+pub state_live : (p : Posed) (kinds : List Kind) (t : DynState) → IsWell p.unit → InRange p → HasKinds p kinds t → (o n : ℕ) → (state_reading p kinds t).flag (record { what = what.Live; index = n }) o ≡ nat_lt o (length t.objects)
+state_live p kinds t well range has o n = ((states_are_shown p (slice_get kinds) (state_in t) well range (is_state p kinds t has)).shown (indices_of first_point) first_is).heap.live o
+
+pub state_class : (p : Posed) (kinds : List Kind) (t : DynState) → IsWell p.unit → InRange p → HasKinds p kinds t → (o n c : ℕ) → class_at t.objects o ≡ Some c → (state_reading p kinds t).number (record { what = what.ClassOf; index = n }) o ≡ pos c
+state_class p kinds t well range has o n c is = at (slice_get t.objects o) refl is
+  where
+    at : (y : Option Object) → slice_get t.objects o ≡ y → option_map (λ (y : Object). y.class) y ≡ Some c → (state_reading p kinds t).number (record { what = what.ClassOf; index = n }) o ≡ pos c
+    at (Some y) there is = ((states_are_shown p (slice_get kinds) (state_in t) well range (is_state p kinds t has)).shown (indices_of first_point) first_is).heap.classes o y there ∙ ap pos (some_same is)
+    at None there is = absurd (none_some is)
 
 -- ## a variable at another index
 

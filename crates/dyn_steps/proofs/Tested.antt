@@ -59,6 +59,38 @@ path_widened p kinds before more after less R from part first last path = record
       record { reading = g.reading; of_problem = g.of_problem; agrees = g.agrees; shown = shows_less p kinds after less g.reading part.end.at t last g.shown; holds = g.holds };
 }
 
+-- and of another relation between the same states
+pub path_alike :
+    (p : Posed) (kinds : List Kind) (before after : Vars) (R S : Relation) (from : Front) (part : Part)
+    → ((s t : DynState) → R s t → S s t)
+    → ((s t : DynState) → S s t → R s t)
+    → IsPath p kinds before after R from part
+    → IsPath p kinds before after S from part
+path_alike p kinds before after R S from part on back path = record {
+  up = path.up;
+  point = path.point;
+  indices = path.indices;
+  sorted = path.sorted;
+  sound = λ m s of is has shown. let run = path.sound m s of is has shown in (run.0, on s run.0 run.1, run.2);
+  full = λ m s t of has shown run. path.full m s t of has shown (back s t run);
+}
+
+-- a formula that never holds is one of no run
+pub no_path :
+    (p : Posed) (kinds : List Kind) (before after : Vars) (from : Front) (f : Formula)
+    → ((m : Reading) → holds f m ≡ false)
+    → is_sorted p (slice_get kinds) f ≡ true
+    → IsPoint p kinds from.next from.at
+    → IsPath p kinds before after (λ s t. ⊥) from (record { formula = f; end = from })
+no_path p kinds before after from f never sorted point = record {
+  up = omega arith;
+  point = point;
+  indices = λ w. inl refl;
+  sorted = sorted;
+  sound = λ m s of is has shown. absurd (false≢true (sym (never m) ∙ is));
+  full = λ m s t of has shown run. absurd run;
+}
+
 -- ## tests
 
 flags_one : {a b : Bool} → Flag a ≡ Flag b → a ≡ b
@@ -214,7 +246,7 @@ slot_part p kinds w x new old k left right f is kind_is left_is right_is meaning
     at None has known = absurd (false≢true known)
 
 -- a relation that is of no variable can be the same at another index
-copy_changes : (p : Posed) (kinds : Kinds) (w : What) (new old : ℕ) → is_slot w ≡ false → is_some (use_of p kinds w) ≡ true → can_change p kinds (record { what = w; index = new }) (record { what = w; index = old }) (record { what = w; index = old }) ≡ true
+pub copy_changes : (p : Posed) (kinds : Kinds) (w : What) (new old : ℕ) → is_slot w ≡ false → is_some (use_of p kinds w) ≡ true → can_change p kinds (record { what = w; index = new }) (record { what = w; index = old }) (record { what = w; index = old }) ≡ true
 copy_changes p kinds what.Live new old spread known = refl
 copy_changes p kinds what.ClassOf new old spread known = refl
 copy_changes p kinds (what.Field g) new old spread known =

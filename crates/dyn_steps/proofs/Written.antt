@@ -113,14 +113,14 @@ refs_of_class m (kind.Ref c) r o v w is shown = shown.1 w
 refs_of_class m kind.Int r o v w is shown = absurd (false≢true is)
 refs_of_class m kind.Flag r o v w is shown = absurd (false≢true is)
 
-spliced_first : (test : RelVar → ℕ → Bool) (c m : Reading) (r : RelVar) (o : ℕ) → test r o ≡ true → IsAlikeAt c r o (spliced test c m) r o
+pub spliced_first : (test : RelVar → ℕ → Bool) (c m : Reading) (r : RelVar) (o : ℕ) → test r o ≡ true → IsAlikeAt c r o (spliced test c m) r o
 spliced_first test c m r o is = record {
   refs = λ v. ap (λ b. if b then c.refs r o v else m.refs r o v) is;
   number = ap (λ b. if b then c.number r o else m.number r o) is;
   flag = ap (λ b. if b then c.flag r o else m.flag r o) is;
 }
 
-spliced_second : (test : RelVar → ℕ → Bool) (c m : Reading) (r : RelVar) (o : ℕ) → test r o ≡ false → IsAlikeAt m r o (spliced test c m) r o
+pub spliced_second : (test : RelVar → ℕ → Bool) (c m : Reading) (r : RelVar) (o : ℕ) → test r o ≡ false → IsAlikeAt m r o (spliced test c m) r o
 spliced_second test c m r o is = record {
   refs = λ v. ap (λ b. if b then c.refs r o v else m.refs r o v) is;
   number = ap (λ b. if b then c.number r o else m.number r o) is;

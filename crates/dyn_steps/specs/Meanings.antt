@@ -15,6 +15,7 @@ use Rattle.rel_core.specs.declared.relation.What.{What}
 use Rattle.rel_core.specs.declared.relation.What.TheVariants as what
 use Rattle.rel_core.specs.Reading.{Reading, numbers_below}
 use Rattle.rel_core.specs.Meaning.{ValueSet, joined, only_object, fitting, with_both, is_subset, are_of, is_changed}
+use Rattle.rel_core.specs.Uses.{Kinds, can_change}
 use Rattle.dyn_steps.specs.declared.point.Point.{Point}
 use Rattle.dyn_steps.specs.Points.{index_of, relation_at, slot}
 
@@ -73,6 +74,17 @@ is_first m (kind.Ref c) r = same_sets m (joined m (is_object 0) r) is_null
 abbrev pub is_grown : Reading → RelVar → What → ℕ → ℕ → Bool
 is_grown m r w n old = is_changed m (record { what = w; index = n }) (m.refs r 0) (record { what = w; index = n + 1 }) (record { what = w; index = old })
 
+-- a relation can be so
+abbrev pub changes : Posed → Kinds → What → ℕ → ℕ → Bool
+changes p kinds w n old = can_change p kinds (record { what = w; index = n }) (record { what = w; index = n + 1 }) (record { what = w; index = old })
+
+-- which objects are there, and of which class each is, with a new one
+abbrev pub live_grown : Reading → Point → ℕ → RelVar → Bool
+live_grown m at n r = there m (record { what = what.Live; index = n + 1 }) 0 && is_grown m r what.Live n at.live
+
+abbrev pub class_grown : Reading → Point → ℕ → RelVar → ℕ → Bool
+class_grown m at n r c = are_of m (is_object 0) c (record { what = what.ClassOf; index = n + 1 }) && is_grown m r what.ClassOf n at.live
+
 -- the kind of a field, where the unit has it
 abbrev pub field_kind : List FieldDef → ℕ → Kind
 field_kind fields f = option_map_or (λ d. d.kind) (slice_get fields f) kind.Int
@@ -86,6 +98,6 @@ abbrev pub is_made : Reading → Posed → Point → ℕ → ℕ → ℕ → Lis
 is_made m p at n x c fs =
     not (there m (relation_at at what.Live) (p.scope.objects - 1))
     && list_all (is_placed m (slot x n) (relation_at at what.Live)) (numbers_below p.scope.objects)
-    && (there m (record { what = what.Live; index = n + 1 }) 0 && is_grown m (slot x n) what.Live n at.live)
-    && (are_of m (is_object 0) c (record { what = what.ClassOf; index = n + 1 }) && is_grown m (slot x n) what.ClassOf n at.live)
+    && live_grown m at n (slot x n)
+    && class_grown m at n (slot x n) c
     && list_all (field_grown m p.unit.fields at n (slot x n)) fs

@@ -44,7 +44,7 @@ fn set_field(from: Front, field: u8, formula: Boxed<Formula>) -> Result<Part, No
 }
 
 /// A relation is another, but that at the object of a variable it has what a third has at place 0.
-fn is_written(
+pub(crate) fn is_written(
     alloc: Global,
     new: RelVar,
     object: RelVar,

@@ -1,21 +1,32 @@
 //! The part of a new object.
 
-ghost use Rattle.std.specs.Prelude.{◌≡◌, ◌≤◌, ◌<◌, ◌-◌, ◌&&◌, ◌||◌, not, ◌==◌, IfOk, IsTrue, nat_lt};
+ghost use Rattle.std.specs.Prelude.{◌≡◌, ◌≤◌, ◌+◌, ◌-◌, ◌&&◌, ◌||◌, not, ◌==◌, List, IfOk, IsTrue, nat_lt, Some, is_some, slice_get};
 ghost use Rattle.std.specs.List.{list_all};
-ghost use Rattle.std.specs.Option.{option_map_or};
 ghost use Rattle.heap_core.specs.Outcomes.{is_null, is_object};
 ghost use Rattle.heap_core.specs.Posed.{Posed};
+ghost use Rattle.taco_unit.specs.declared.kind.Kind.{Kind as TheKind};
 ghost use Rattle.taco_unit.specs.declared.kind.Kind.TheVariants as kind;
+ghost use Rattle.taco_unit.specs.declared.unit.ClassDef.{ClassDef};
+ghost use Rattle.dyn_core.specs.declared.prog.Act.TheVariants as acts;
+ghost use Rattle.rel_core.specs.declared.relation.What.TheVariants as what;
+ghost use Rattle.dyn_steps.specs.Points.{IsPoint, relation_at, slot as slot_lem};
+ghost use Rattle.dyn_steps.specs.Looked.{Vars};
+ghost use Rattle.dyn_steps.specs.Paths.{IsPath, IsStep};
 ghost use Rattle.rel_core.specs.Reading.{Reading, numbers_below};
-ghost use Rattle.rel_core.specs.Meaning.{holds, joined, set_of};
-ghost use Rattle.rel_core.specs.Uses.{Kinds, AsFlag, AsNumber, AsSet, is_sorted, is_sorted_set, is_spread, is_variable, use_of_kind};
-ghost use Rattle.dyn_steps.specs.Meanings.{there, is_next as is_next_lem, is_placed as is_placed_lem, is_first as is_first_lem, same_sets};
+ghost use Rattle.rel_core.specs.Meaning.{are_of, holds, joined, set_of};
+ghost use Rattle.rel_core.specs.Uses.{Kinds, AsClass, AsFlag, AsNumber, AsSet, is_sorted, is_sorted_set, is_spread, is_variable, use_of_kind};
+ghost use Rattle.dyn_steps.specs.Meanings.{there, is_next as is_next_lem, is_placed as is_placed_lem, is_first as is_first_lem, same_sets, is_grown, is_made, changes, field_kind, live_grown as live_grown_lem, class_grown as class_grown_lem, field_grown as field_grown_lem};
 
+use crate::heap_steps::is_written;
+use crate::part::{Basis, Front, Part};
+use crate::point::with_new;
+use crate::setting::{next_index, slot};
+use heap_core::well_posed;
 use no_memory::NoMemory;
-use rel_core::{Formula, NumExpr, RelExpr, RelVar};
-use sqlite_items::{Boxed, Items};
+use rel_core::{Formula, NumExpr, RelExpr, RelVar, What};
+use sqlite_items::{Boxed, Items, at};
 use std::alloc::Global;
-use taco_unit::Kind;
+use taco_unit::{FieldDef, Kind};
 
 /// The flag of a relation at an object.
 fn is_there(alloc: Global, live: RelVar, object: u8) -> Result<Boxed<Formula>, NoMemory>
@@ -118,11 +129,10 @@ fn all_placed(
 
 /// There is room for one more object: the last of so many is not there.
 fn has_room(alloc: Global, live: RelVar, objects: u8) -> Result<Boxed<Formula>, NoMemory>
-    requires { 0 < objects }
     ensures meaning { IfOk result (λ r. (m : Reading) → holds r m ≡ not (there m live (objects - 1))) }
-    ensures sorted { IfOk result (λ r. (p : Posed) (kinds : Kinds) → objects ≤ p.scope.objects → IsTrue (is_spread p kinds AsFlag live) → IsTrue (is_sorted p kinds r)) }
+    ensures sorted { IfOk result (λ r. (p : Posed) (kinds : Kinds) → IsTrue (nat_lt (objects - 1) p.scope.objects) → IsTrue (is_spread p kinds AsFlag live) → IsTrue (is_sorted p kinds r)) }
 {
-    let free = is_not_there(alloc, live, objects - 1)?;
+    let free = is_not_there(alloc, live, objects.saturating_sub(1))?;
     Ok(free)
 }
 
@@ -180,6 +190,222 @@ fn is_first(alloc: Global, kind: Kind, relation: RelVar) -> Result<Boxed<Formula
         Kind::Ref(_) => {
             let first = is_null_first(alloc, relation)?;
             Ok(first)
+        }
+    }
+}
+
+/// The class of a new object, by a relation at place 0.
+fn is_of_class(alloc: Global, class: u8, relation: RelVar) -> Result<Boxed<Formula>, NoMemory>
+    ensures meaning { IfOk result (λ r. (m : Reading) → holds r m ≡ are_of m (is_object 0) class relation) }
+    ensures sorted { IfOk result (λ r. (p : Posed) (kinds : Kinds) → IsTrue (nat_lt 0 p.scope.objects) → IsTrue (is_spread p kinds AsClass relation) → IsTrue (is_sorted p kinds r)) }
+{
+    let place = RelExpr::object(alloc, 0)?;
+    let of = Formula::is_class(alloc, place, class, relation)?;
+    Ok(of)
+}
+
+/// A relation at the index behind the next one, which has the values with which a new object begins.
+fn given(what: What, from: &Front) -> Result<RelVar, NoMemory>
+    ensures { IfOk result (λ r. r ≡ record { what = what; index = from.now.next + 1 }) }
+{
+    let index = next_index(from.next)?;
+    Ok(RelVar { what, index })
+}
+
+/// A relation is at the next index what it was, but that at a new object it has what it is given.
+fn grown(
+    alloc: Global,
+    from: &Front,
+    variable: RelVar,
+    what: What,
+    old: u32,
+) -> Result<Boxed<Formula>, NoMemory>
+    ensures meaning { IfOk result (λ r. (m : Reading) → holds r m ≡ is_grown m variable what from.now.next old) }
+    ensures sorted { IfOk result (λ r. (p : Posed) (kinds : Kinds) → IsTrue (is_variable p kinds AsSet variable) → IsTrue (changes p kinds what from.now.next old) → IsTrue (is_sorted p kinds r)) }
+{
+    let given = given(what, from)?;
+    let new = RelVar {
+        what,
+        index: from.next,
+    };
+    let old = RelVar { what, index: old };
+    let written = is_written(alloc, new, variable, given, old)?;
+    Ok(written)
+}
+
+/// Which objects are there, with a new one.
+fn live_grown(alloc: Global, from: &Front, variable: RelVar) -> Result<Boxed<Formula>, NoMemory>
+    ensures meaning { IfOk result (λ r. (m : Reading) → holds r m ≡ live_grown_lem m from.now.at from.now.next variable) }
+    ensures sorted { IfOk result (λ r. (p : Posed) (kinds : Kinds) → IsTrue (nat_lt 0 p.scope.objects) → IsTrue (is_variable p kinds AsSet variable) → IsTrue (is_sorted p kinds r)) }
+{
+    let given = given(What::Live, from)?;
+    let there = is_there(alloc, given, 0)?;
+    let grown = grown(alloc, from, variable, What::Live, from.at.live)?;
+    let both = Formula::both(alloc, there, grown)?;
+    Ok(both)
+}
+
+/// Of which class each is.
+fn class_grown(
+    alloc: Global,
+    from: &Front,
+    variable: RelVar,
+    class: u8,
+) -> Result<Boxed<Formula>, NoMemory>
+    ensures meaning { IfOk result (λ r. (m : Reading) → holds r m ≡ class_grown_lem m from.now.at from.now.next variable class) }
+    ensures sorted { IfOk result (λ r. (p : Posed) (kinds : Kinds) → IsTrue (nat_lt 0 p.scope.objects) → IsTrue (is_variable p kinds AsSet variable) → IsTrue (is_sorted p kinds r)) }
+{
+    let given = given(What::ClassOf, from)?;
+    let of = is_of_class(alloc, class, given)?;
+    let grown = grown(alloc, from, variable, What::ClassOf, from.at.live)?;
+    let both = Formula::both(alloc, of, grown)?;
+    Ok(both)
+}
+
+/// The kind of a field, where the unit has it.
+fn kind_of_field(fields: &[FieldDef], field: u8) -> Kind
+    ensures { result ≡ field_kind fields.now field }
+{
+    match at(fields, usize::from(field)) {
+        Some(declared) => declared.kind,
+        None => Kind::Int,
+    }
+}
+
+/// A field of the class of a new object.
+fn field_grown(
+    alloc: Global,
+    declared: &[FieldDef],
+    from: &Front,
+    variable: RelVar,
+    field: u8,
+) -> Result<Boxed<Formula>, NoMemory>
+    ensures meaning { IfOk result (λ r. (m : Reading) → holds r m ≡ field_grown_lem m declared.now from.now.at from.now.next variable field) }
+    ensures sorted { IfOk result (λ r. (p : Posed) (kinds : Kinds) → p.unit.fields ≡ declared.now → IsTrue (is_some (slice_get declared.now field)) → IsTrue (nat_lt 0 p.scope.objects) → IsTrue (is_variable p kinds AsSet variable) → IsTrue (is_sorted p kinds r)) }
+{
+    let kind = kind_of_field(declared, field);
+    let given = given(What::Field(field), from)?;
+    let first = is_first(alloc, kind, given)?;
+    let old = from.at.field(field);
+    let grown = grown(alloc, from, variable, What::Field(field), old.index)?;
+    let both = Formula::both(alloc, first, grown)?;
+    Ok(both)
+}
+
+/// All fields of the class of a new object.
+fn fields_grown(
+    alloc: Global,
+    declared: &[FieldDef],
+    from: &Front,
+    variable: RelVar,
+    fields: &[u8],
+) -> Result<Boxed<Formula>, NoMemory>
+    ensures meaning { IfOk result (λ r. (m : Reading) → holds r m ≡ list_all (field_grown_lem m declared.now from.now.at from.now.next variable) fields.now) }
+    ensures sorted { IfOk result (λ r. (p : Posed) (kinds : Kinds) → p.unit.fields ≡ declared.now → IsTrue (list_all (λ f. is_some (slice_get declared.now f)) fields.now) → IsTrue (nat_lt 0 p.scope.objects) → IsTrue (is_variable p kinds AsSet variable) → IsTrue (is_sorted p kinds r)) }
+{
+    let mut parts = Items::from_vec(Vec::with_capacity(alloc, fields.len())?);
+    for field in fields {
+        let grown = field_grown(alloc, declared, from, variable, *field)?;
+        parts.push(grown.into_inner())?;
+    }
+    let all = Formula::all(alloc, parts)?;
+    Ok(all)
+}
+
+/// There is room, a variable is the next object, and it is there.
+fn object_made(
+    alloc: Global,
+    basis: Basis<'_>,
+    from: &Front,
+    variable: RelVar,
+) -> Result<Boxed<Formula>, NoMemory>
+    ensures meaning { IfOk result (λ r. (m : Reading) → holds r m ≡ (not (there m (relation_at from.now.at what.Live) (basis.entry.problem.now.scope.objects - 1)) && list_all (is_placed_lem m variable (relation_at from.now.at what.Live)) (numbers_below basis.entry.problem.now.scope.objects) && live_grown_lem m from.now.at from.now.next variable)) }
+    ensures sorted { IfOk result (λ r. (kinds : Kinds) → IsTrue (is_variable basis.entry.problem.now kinds AsSet variable) → IsTrue (is_sorted basis.entry.problem.now kinds r)) }
+{
+    well_posed(basis.problem);
+    let live = from.at.live();
+    let objects = basis.problem.scope.objects;
+    let room = has_room(alloc, live, objects)?;
+    let placed = all_placed(alloc, variable, live, objects)?;
+    let front = Formula::both(alloc, room, placed)?;
+    let lives = live_grown(alloc, from, variable)?;
+    let all = Formula::both(alloc, front, lives)?;
+    Ok(all)
+}
+
+/// A variable is a new object of a class of these fields, with their first values, and all else is as it was.
+fn all_made(
+    alloc: Global,
+    basis: Basis<'_>,
+    from: &Front,
+    target: u16,
+    class: u8,
+    fields: &[u8],
+) -> Result<Boxed<Formula>, NoMemory>
+    ensures meaning { IfOk result (λ r. (m : Reading) → holds r m ≡ is_made m basis.entry.problem.now from.now.at from.now.next target class fields.now) }
+    ensures sorted { IfOk result (λ r. (kinds : Kinds) → IsTrue (is_variable basis.entry.problem.now kinds AsSet (slot_lem target from.now.next)) → IsTrue (list_all (λ f. is_some (slice_get basis.entry.problem.now.unit.fields f)) fields.now) → IsTrue (is_sorted basis.entry.problem.now kinds r)) }
+{
+    well_posed(basis.problem);
+    let variable = slot(target, from.next);
+    let object = object_made(alloc, basis, from, variable)?;
+    let classes = class_grown(alloc, from, variable, class)?;
+    let heap = Formula::both(alloc, object, classes)?;
+    let declared = basis.problem.unit.fields.as_slice();
+    let cells = fields_grown(alloc, declared, from, variable, fields)?;
+    let all = Formula::both(alloc, heap, cells)?;
+    Ok(all)
+}
+
+/// A variable is set to a new object of a class that has these fields.
+fn make_of(
+    alloc: Global,
+    basis: Basis<'_>,
+    from: Front,
+    target: u16,
+    class: u8,
+    fields: &[u8],
+) -> Result<Part, NoMemory>
+    ensures { IfOk result (λ r. (d : ClassDef) → slice_get basis.entry.problem.now.unit.classes class ≡ Some d → d.fields ≡ fields.now → IsStep basis.entry.problem.now basis.entry.kinds.now (acts.Make target class) from r) }
+{
+    well_posed(basis.problem);
+    let formula = all_made(alloc, basis, &from, target, class, fields)?;
+    let behind = next_index(from.next)?;
+    let next = next_index(behind)?;
+    let at = with_new(from.at, target, fields, from.next);
+    Ok(Part {
+        formula,
+        end: Front { at, next },
+    })
+}
+
+/// The part of no run at all: nothing begins with it.
+pub fn nothing(alloc: Global, from: Front) -> Result<Part, NoMemory>
+    ensures { IfOk result (λ r. (p : Posed) (kinds : List TheKind) (before after : Vars) → IsPoint p kinds from.next from.at → IsPath p kinds before after (λ s t. ⊥) from r) }
+{
+    let formula = Formula::constant(alloc, false)?;
+    Ok(Part { formula, end: from })
+}
+
+/// A variable is set to a new object of a class, where there is room. Linear in the problem's objects and in the
+/// fields of the class, besides the look-ups of the indices. It takes two indices: the values with which the
+/// object begins have one of their own.
+pub fn make(
+    alloc: Global,
+    basis: Basis<'_>,
+    from: Front,
+    target: u16,
+    class: u8,
+) -> Result<Part, NoMemory>
+    ensures { IfOk result (IsStep basis.entry.problem.now basis.entry.kinds.now (acts.Make target class) from) }
+{
+    match at(basis.problem.unit.classes.as_slice(), usize::from(class)) {
+        Some(declared) => {
+            let part = make_of(alloc, basis, from, target, class, declared.fields.as_slice())?;
+            Ok(part)
+        }
+        None => {
+            let part = nothing(alloc, from)?;
+            Ok(part)
         }
     }
 }

@@ -1,6 +1,6 @@
 ghost use Rattle.std.specs.Prelude.{◌≡◌, IfOk};
 ghost use Rattle.rel_core.specs.declared.relation.What.TheVariants as what;
-ghost use Rattle.dyn_steps.specs.Points.{relation_at, var_moved, field_moved};
+ghost use Rattle.dyn_steps.specs.Points.{relation_at, var_moved, field_moved, fields_moved, made_point};
 
 use no_memory::NoMemory;
 use rel_core::{RelVar, What};
@@ -103,4 +103,28 @@ pub(crate) fn with_field(at: Point, field: u8, index: u32) -> Point
         live: at.live,
         vars: at.vars,
     }
+}
+
+/// The indices, with another one for each of these fields. Linear in them; takes no memory.
+fn with_fields(at: Point, fields: &[u8], index: u32) -> Point
+    ensures { result ≡ fields_moved at fields.now index }
+{
+    let mut at = at;
+    for field in fields {
+        at = with_field(at, *field, index);
+    }
+    at
+}
+
+/// The indices, with another one for what a new object of a class of these fields changes, and for a variable.
+pub(crate) fn with_new(at: Point, variable: u16, fields: &[u8], index: u32) -> Point
+    ensures { result ≡ made_point at variable fields.now index }
+{
+    let moved = with_fields(at, fields, index);
+    let heap = Point {
+        fields: moved.fields,
+        live: index,
+        vars: moved.vars,
+    };
+    with_var(heap, variable, index)
 }
