@@ -44,7 +44,7 @@ use Rattle.dyn_steps.specs.declared.part.Part.{Part}
 use Rattle.dyn_steps.specs.Points.{index_of, relation_at, slot, indices_of, fields_moved, made_point, var_moved, IsPoint}
 use Rattle.dyn_steps.specs.Agreeing.{IsAlike, Agree}
 use Rattle.dyn_steps.specs.Looked.{Vars, without, looked_at}
-use Rattle.dyn_steps.specs.Meanings.{there, is_next, is_placed, is_first, field_kind, is_grown, field_grown, is_made, same_sets}
+use Rattle.dyn_steps.specs.Meanings.{there, is_next, is_placed, is_first, field_kind, is_grown, live_grown as live_part, class_grown as class_part, field_grown, is_made, same_sets}
 use Rattle.dyn_steps.specs.Paths.{Shows, Acts, GoesOn, IsPath, IsStep, made_set}
 use Rattle.dyn_core.proofs.Vars.{var_set}
 use Rattle.dyn_core.proofs.Fitting.{var_is}
@@ -785,3 +785,34 @@ make_missing p kinds from part x c lacks path fits point after =
 
     none : (s t : DynState) → Acts p (Make x c) s t → ⊥
     none s t run = none_some (sym (ap (option_map (λ h. record { vars = with_var s.vars x (Obj (length s.objects)); objects = h })) (no_heap s.objects)) ∙ run)
+
+-- the same, of a part that was put together
+pub make_built :
+    (p : Posed) (kinds : List Kind) (from : Front) (f : Formula) (at : Point) (behind next x c : ℕ) (fs : List ℕ)
+    → IsWell p.unit
+    → InRange p
+    → at ≡ made_point from.at x fs from.next
+    → behind ≡ from.next + 1
+    → next ≡ behind + 1
+    → ((m : Reading) → holds f m ≡ is_made m p from.at from.next x c fs)
+    → ((kinds : Kinds) → is_variable p kinds AsSet (slot x from.next) ≡ true → list_all (λ g. is_some (slice_get p.unit.fields g)) fs ≡ true → is_sorted p kinds f ≡ true)
+    → (d : ClassDef)
+    → slice_get p.unit.classes c ≡ Some d
+    → d.fields ≡ fs
+    → IsStep p kinds (Make x c) from (record { formula = f; end = record { at = at; next = next } })
+make_built p kinds from f at behind next x c fs well range at_is behind_is next_is meaning sorted d class listed =
+    make_part p kinds from (record { formula = f; end = record { at = at; next = next } }) f x c fs d well range
+    (ap (λ (z : Point). record { formula = f; end = record { at = z; next = next } }) at_is
+    ∙ ap (λ (i : ℕ). record { formula = f; end = record { at = made_point from.at x fs from.next; next = i } }) (next_is ∙ ap (λ i. i + 1) behind_is))
+    meaning sorted class listed
+
+-- what the parts of the formula mean, by the relation and the fields that they were made for
+pub made_of :
+    (m : Reading) (p : Posed) (at : Point) (n x c : ℕ) (fs : List ℕ) (r : RelVar) (declared : List FieldDef)
+    → r ≡ slot x n
+    → declared ≡ p.unit.fields
+    → (not (there m (relation_at at what.Live) (p.scope.objects - 1)) && list_all (is_placed m r (relation_at at what.Live)) (numbers_below p.scope.objects) && live_part m at n r && class_part m at n r c && list_all (field_grown m declared at n r) fs)
+        ≡ is_made m p at n x c fs
+made_of m p at n x c fs r declared is same =
+    ap (λ z. not (there m (relation_at at what.Live) (p.scope.objects - 1)) && list_all (is_placed m z (relation_at at what.Live)) (numbers_below p.scope.objects) && live_part m at n z && class_part m at n z c && list_all (field_grown m declared at n z) fs) is
+    ∙ ap (λ ds. not (there m (relation_at at what.Live) (p.scope.objects - 1)) && list_all (is_placed m (slot x n) (relation_at at what.Live)) (numbers_below p.scope.objects) && live_part m at n (slot x n) && class_part m at n (slot x n) c && list_all (field_grown m ds at n (slot x n)) fs) same

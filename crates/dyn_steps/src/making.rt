@@ -2,11 +2,12 @@
 
 ghost use Rattle.std.specs.Prelude.{◌≡◌, ◌≤◌, ◌+◌, ◌-◌, ◌&&◌, ◌||◌, not, ◌==◌, List, IfOk, IsTrue, nat_lt, Some, is_some, slice_get};
 ghost use Rattle.std.specs.List.{list_all};
+ghost use Rattle.std.specs.Option.{option_copied};
 ghost use Rattle.heap_core.specs.Outcomes.{is_null, is_object};
 ghost use Rattle.heap_core.specs.Posed.{Posed};
 ghost use Rattle.taco_unit.specs.declared.kind.Kind.{Kind as TheKind};
 ghost use Rattle.taco_unit.specs.declared.kind.Kind.TheVariants as kind;
-ghost use Rattle.taco_unit.specs.declared.unit.ClassDef.{ClassDef};
+ghost use Rattle.taco_unit.specs.declared.unit.ClassDef.{ClassDef as TheClass};
 ghost use Rattle.dyn_core.specs.declared.prog.Act.TheVariants as acts;
 ghost use Rattle.rel_core.specs.declared.relation.What.TheVariants as what;
 ghost use Rattle.dyn_steps.specs.Points.{IsPoint, relation_at, slot as slot_lem};
@@ -21,12 +22,12 @@ use crate::heap_steps::is_written;
 use crate::part::{Basis, Front, Part};
 use crate::point::with_new;
 use crate::setting::{next_index, slot};
-use heap_core::well_posed;
+use heap_core::{Problem, well_posed};
 use no_memory::NoMemory;
 use rel_core::{Formula, NumExpr, RelExpr, RelVar, What};
 use sqlite_items::{Boxed, Items, at};
 use std::alloc::Global;
-use taco_unit::{FieldDef, Kind};
+use taco_unit::{ClassDef, FieldDef, Kind};
 
 /// The flag of a relation at an object.
 fn is_there(alloc: Global, live: RelVar, object: u8) -> Result<Boxed<Formula>, NoMemory>
@@ -324,13 +325,35 @@ fn object_made(
 {
     well_posed(basis.problem);
     let live = from.at.live();
-    let objects = basis.problem.scope.objects;
+    let problem = basis.problem;
+    let objects = problem.scope.objects;
     let room = has_room(alloc, live, objects)?;
     let placed = all_placed(alloc, variable, live, objects)?;
     let front = Formula::both(alloc, room, placed)?;
     let lives = live_grown(alloc, from, variable)?;
     let all = Formula::both(alloc, front, lives)?;
     Ok(all)
+}
+
+/// The fields of a problem's unit.
+fn fields_of(problem: &Problem) -> &[FieldDef]
+    ensures { result.now ≡ problem.now.unit.fields }
+{
+    problem.unit.fields.as_slice()
+}
+
+/// The class of this number.
+fn class_at(classes: &[ClassDef], class: u8) -> Option<&ClassDef>
+    ensures { option_copied result ≡ slice_get classes.now class }
+{
+    at(classes, usize::from(class))
+}
+
+/// The class of this number of a problem's unit.
+fn class_of(problem: &Problem, class: u8) -> Option<&ClassDef>
+    ensures { option_copied result ≡ slice_get problem.now.unit.classes class }
+{
+    class_at(problem.unit.classes.as_slice(), class)
 }
 
 /// A variable is a new object of a class of these fields, with their first values, and all else is as it was.
@@ -350,7 +373,7 @@ fn all_made(
     let object = object_made(alloc, basis, from, variable)?;
     let classes = class_grown(alloc, from, variable, class)?;
     let heap = Formula::both(alloc, object, classes)?;
-    let declared = basis.problem.unit.fields.as_slice();
+    let declared = fields_of(basis.problem);
     let cells = fields_grown(alloc, declared, from, variable, fields)?;
     let all = Formula::both(alloc, heap, cells)?;
     Ok(all)
@@ -365,7 +388,7 @@ fn make_of(
     class: u8,
     fields: &[u8],
 ) -> Result<Part, NoMemory>
-    ensures { IfOk result (λ r. (d : ClassDef) → slice_get basis.entry.problem.now.unit.classes class ≡ Some d → d.fields ≡ fields.now → IsStep basis.entry.problem.now basis.entry.kinds.now (acts.Make target class) from r) }
+    ensures { IfOk result (λ r. (d : TheClass) → slice_get basis.entry.problem.now.unit.classes class ≡ Some d → d.fields ≡ fields.now → IsStep basis.entry.problem.now basis.entry.kinds.now (acts.Make target class) from r) }
 {
     well_posed(basis.problem);
     let formula = all_made(alloc, basis, &from, target, class, fields)?;
@@ -398,7 +421,7 @@ pub fn make(
 ) -> Result<Part, NoMemory>
     ensures { IfOk result (IsStep basis.entry.problem.now basis.entry.kinds.now (acts.Make target class) from) }
 {
-    match at(basis.problem.unit.classes.as_slice(), usize::from(class)) {
+    match class_of(basis.problem, class) {
         Some(declared) => {
             let part = make_of(alloc, basis, from, target, class, declared.fields.as_slice())?;
             Ok(part)

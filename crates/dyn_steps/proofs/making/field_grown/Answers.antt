@@ -17,4 +17,4 @@ pub returns-clause-sorted : goal.returns-clause-sorted
 returns-clause-sorted c = λ p kinds same known below variable.
     c.in_ok-both.ensures.sorted p kinds
     (c.in_ok-first.ensures.sorted p kinds below (field_spread p kinds c.args.declared.now c.args.field _ _ _ c.kind_of_field-kind.ensures c.in_ok-given.ensures same known))
-    (c.in_ok-grown.ensures.sorted p kinds variable (field_changes p kinds c.args.declared.now c.args.field c.args.from.now.next _ same known))
+    (c.in_ok-grown.ensures.sorted p kinds variable (field_changes p kinds c.args.declared.now c.args.field c.args.from.now.next c.field-old.result.index same known))

@@ -14,13 +14,13 @@ returns-clause-meaning c = λ m.
     ∙ both_of _ _ _ _
         (c.in_ok-front.ensures.meaning m
         ∙ both_of _ _ _ _
-            (c.in_ok-room.ensures.meaning m ∙ ap (λ r. not (there m r (c.args.basis.entry.problem.now.scope.objects - 1))) c.live-live.ensures)
-            (c.in_ok-placed.ensures.meaning m ∙ ap (λ r. list_all (is_placed m c.args.variable r) (numbers_below c.args.basis.entry.problem.now.scope.objects)) c.live-live.ensures))
+            (c.in_ok-room.ensures.meaning m ∙ ap (λ r. not (there m r (c.args.basis.problem.now.scope.objects - 1))) c.live-live.ensures)
+            (c.in_ok-placed.ensures.meaning m ∙ ap (λ r. list_all (is_placed m c.args.variable r) (numbers_below c.args.basis.problem.now.scope.objects)) c.live-live.ensures))
         (c.in_ok-lives.ensures.meaning m)
 
 pub returns-clause-sorted : goal.returns-clause-sorted
 returns-clause-sorted c = λ kinds variable.
-    let p = c.args.basis.entry.problem.now in
+    let p = c.args.basis.problem.now in
     let low = c.well_posed.ensures.scope.scope.objects_low in
     let spread = ap (is_spread p kinds AsFlag) c.live-live.ensures in
     c.in_ok-all.ensures.sorted p kinds
