@@ -1,5 +1,5 @@
 -- Lists of formulas that are built one by one, and the fields of a new object.
-use Rattle.std.proofs.Common.{◌≡◌, ℕ, zero, suc, ◌+◌, ◌<◌, Bool, true, false, not, ◌&&◌, List, [], ◌∷◌, ◌++◌, length, take, Option, Some, None, refl, sym, ◌∙◌, ap, subst, arith, get_or}
+use Rattle.std.proofs.Common.{◌≡◌, ℕ, zero, suc, ◌+◌, ◌-◌, ◌<◌, Bool, true, false, not, ◌&&◌, List, [], ◌∷◌, ◌++◌, length, take, Option, Some, None, refl, sym, ◌∙◌, ap, subst, arith, get_or}
 use Rattle.std.specs.Prelude.{slice_get, is_some, option_map}
 use Rattle.std.specs.List.{list_all, range_with_len}
 use Rattle.std.specs.Option.{option_map_or}
@@ -16,7 +16,7 @@ use Rattle.rel_core.specs.declared.relation.What.{What}
 use Rattle.rel_core.specs.declared.relation.What.TheVariants as what
 use Rattle.rel_core.specs.Reading.{Reading, numbers_below}
 use Rattle.rel_core.specs.Uses.{Kinds, use_of_kind, use_of, is_spread}
-use Rattle.dyn_steps.specs.Meanings.{is_first, field_kind, changes}
+use Rattle.dyn_steps.specs.Meanings.{there, is_placed, is_first, field_kind, changes}
 use Rattle.dyn_steps.proofs.Acts.{field_used}
 use Rattle.dyn_steps.proofs.Tested.{copy_changes}
 
@@ -61,6 +61,14 @@ list_gathered t F xs ys x fs i is low before one =
 
 pub all_item : (F : ℕ → Bool) (fs : List ℕ) (i : ℕ) → list_all F fs ≡ true → i < length fs → F (get_or fs i 0) ≡ true
 all_item F fs i all low = all_at F fs i (get_or fs i 0) all (slice_get-get_or fs i 0 low)
+
+-- ## the room, and the place of a new object
+
+pub room_of : (m : Reading) (r q : RelVar) (k n : ℕ) → r ≡ q → k ≡ n → not (there m r (k - 1)) ≡ not (there m q (n - 1))
+room_of m r q k n is same = ap (λ z. not (there m z (k - 1))) is ∙ ap (λ i. not (there m q (i - 1))) same
+
+pub placed_of : (m : Reading) (v r q : RelVar) (k n : ℕ) → r ≡ q → k ≡ n → list_all (is_placed m v r) (numbers_below k) ≡ list_all (is_placed m v q) (numbers_below n)
+placed_of m v r q k n is same = ap (λ z. list_all (is_placed m v z) (numbers_below k)) is ∙ ap (λ i. list_all (is_placed m v q) (numbers_below i)) same
 
 -- ## fields
 

@@ -313,6 +313,13 @@ fn fields_grown(
     Ok(all)
 }
 
+/// How many objects a heap of the problem may have.
+fn objects_of(problem: &Problem) -> u8
+    ensures { result ≡ problem.now.scope.objects }
+{
+    problem.scope.objects
+}
+
 /// There is room, a variable is the next object, and it is there.
 fn object_made(
     alloc: Global,
@@ -325,8 +332,7 @@ fn object_made(
 {
     well_posed(basis.problem);
     let live = from.at.live();
-    let problem = basis.problem;
-    let objects = problem.scope.objects;
+    let objects = objects_of(basis.problem);
     let room = has_room(alloc, live, objects)?;
     let placed = all_placed(alloc, variable, live, objects)?;
     let front = Formula::both(alloc, room, placed)?;
