@@ -1,5 +1,5 @@
 -- The join of two branches: the formula of either, with each relation at one index behind both.
-use Rattle.std.proofs.Common.{◌≡◌, ◌⊎◌, ℕ, suc, ◌<◌, ◌≤◌, Bool, true, false, ◌&&◌, ◌||◌, List, refl, sym, ◌∙◌, ap, subst, inl, inr, arith}
+use Rattle.std.proofs.Common.{◌≡◌, ◌⊎◌, ℕ, ◌+◌, ◌<◌, ◌≤◌, Bool, true, false, ◌&&◌, ◌||◌, List, refl, sym, ◌∙◌, ap, subst, inl, inr, arith}
 use Rattle.std.specs.Prelude.{slice_get}
 use Rattle.std.proofs.lemmas.Bool.{and_parts, and_from, or_left, or_right, false≢true}
 use Rattle.taco_unit.specs.declared.kind.Kind.{Kind}
@@ -18,18 +18,9 @@ use Rattle.dyn_steps.specs.Points.{index_of, relation_at, IsPoint}
 use Rattle.dyn_steps.specs.Agreeing.{IsAlike, Agree}
 use Rattle.dyn_steps.specs.Looked.{Vars}
 use Rattle.dyn_steps.specs.Paths.{Shows, Relation, GoesOn, IsPath}
-use Rattle.dyn_steps.proofs.Moving.{alike_self, alike_back, alike_on, agree_less, agree_on, agree_at, point_more, IsLooked, shows_move}
+use Rattle.dyn_steps.specs.Joining.{Joins, Equates, Either, AreJoined}
+use Rattle.dyn_steps.proofs.Moving.{alike_self, alike_back, alike_on, agree_less, agree_on, agree_at, point_more, shows_move}
 use Rattle.dyn_steps.proofs.Readings.{renewed, moved, renewed_of, moved_of, renewed_new, renewed_old, moved_alike}
-
--- each index is the one of a branch, or the new one
-abbrev pub Joins : ℕ → Point → Point → Type 0
-Joins n at joint = (w : What) → (index_of joint w ≡ index_of at w) ⊎ (index_of joint w ≡ n)
-
--- a formula that says of each relation that is looked at that it is the same at both points
-pub record Equates (p : Posed) (kinds : List Kind) (vars : Vars) (at joint : Point) (f : Formula) : Type 0 where
-  pub sorted : is_sorted p (slice_get kinds) f ≡ true
-  pub alike : (m : Reading) → IsOf p (slice_get kinds) m → holds f m ≡ true → (w : What) → IsLooked vars w → IsAlike m (relation_at at w) m (relation_at joint w)
-  pub holds : (m : Reading) → IsOf p (slice_get kinds) m → ((w : What) → IsAlike m (relation_at at w) m (relation_at joint w)) → holds f m ≡ true
 
 module _ (p : Posed) (kinds : List Kind) (after : Vars) where
   abbrev Of : Reading → Type 0
@@ -54,8 +45,8 @@ module _ (p : Posed) (kinds : List Kind) (after : Vars) where
       → part.end.next ≤ n
       → IsPoint p kinds part.end.next part.end.at
       → Joins n part.end.at joint.end.at
-      → IsPoint p kinds (suc n) joint.end.at
-      → joint.end.next ≡ suc n
+      → IsPoint p kinds (n + 1) joint.end.at
+      → joint.end.next ≡ n + 1
       → Equates p kinds after part.end.at joint.end.at equal
       → ((u : Reading) → holds part.formula u ≡ true → holds equal u ≡ true → holds joint.formula u ≡ true)
       → GoesOn p kinds after m k part t
@@ -66,11 +57,11 @@ module _ (p : Posed) (kinds : List Kind) (after : Vars) where
     agrees = agree_on k m g.reading reading g.agrees (agree_less k n g.reading reading (omega (arith, up, few)) old);
     shown = shows_move p kinds after g.reading reading part.end.at joint.end.at t refl (λ w is. alike w) g.shown;
     holds = λ u of agree.
-        let near : Agree (suc n) reading u = subst (λ k. Agree k reading u) next agree in
-        let below : Agree part.end.next g.reading u = agree_on part.end.next g.reading reading u (agree_less part.end.next n g.reading reading few old) (agree_less part.end.next (suc n) reading u (omega (arith, few)) near) in
+        let near : Agree (n + 1) reading u = subst (λ k. Agree k reading u) next agree in
+        let below : Agree part.end.next g.reading u = agree_on part.end.next g.reading reading u (agree_less part.end.next n g.reading reading few old) (agree_less part.end.next (n + 1) reading u (omega (arith, few)) near) in
         either u (g.holds u of below) (equates.holds u of (λ w.
             alike_on (alike_back (agree_at p kinds part.end.next part.end.at g.reading u point below w))
-            (alike_on (alike w) (agree_at p kinds (suc n) joint.end.at reading u whole near w))));
+            (alike_on (alike w) (agree_at p kinds (n + 1) joint.end.at reading u whole near w))));
   }
     where
       reading : Reading
@@ -85,29 +76,12 @@ module _ (p : Posed) (kinds : List Kind) (after : Vars) where
       alike : (w : What) → IsAlike g.reading (relation_at part.end.at w) reading (relation_at joint.end.at w)
       alike = joined_alike n part.end.at joint.end.at g.reading joins (point_more p kinds part.end.next n part.end.at few point)
 
--- the two relations together
-abbrev pub Either : Relation → Relation → Relation
-Either R S s t = R s t ⊎ S s t
-
--- two branches and what joins them: the second is begun from the first one's next index
-pub record AreJoined (p : Posed) (kinds : List Kind) (after : Vars) (from : Front) (a b joint : Part) : Type 0 where
-  pub first_equal : Formula
-  pub second_equal : Formula
-  pub next : joint.end.next ≡ suc b.end.next
-  pub point : IsPoint p kinds b.end.next a.end.at → IsPoint p kinds b.end.next b.end.at → IsPoint p kinds (suc b.end.next) joint.end.at
-  pub first_joins : Joins b.end.next a.end.at joint.end.at
-  pub second_joins : Joins b.end.next b.end.at joint.end.at
-  pub first_equates : Equates p kinds after a.end.at joint.end.at first_equal
-  pub second_equates : Equates p kinds after b.end.at joint.end.at second_equal
-  pub meaning : (m : Reading) → holds joint.formula m ≡ ((holds a.formula m && holds first_equal m) || (holds b.formula m && holds second_equal m))
-  pub sorted : is_sorted p (slice_get kinds) a.formula ≡ true → is_sorted p (slice_get kinds) b.formula ≡ true → is_sorted p (slice_get kinds) joint.formula ≡ true
-
 or_either : (x y : Bool) → (x || y) ≡ true → (x ≡ true) ⊎ (y ≡ true)
 or_either true y is = inl refl
 or_either false y is = inr is
 
 module _ (p : Posed) (kinds : List Kind) (before after : Vars) (R S : Relation) (from : Front) (a b joint : Part)
-    (first : IsPath p kinds before after R from a) (second : IsPath p kinds before after S (record { at = from.at; next = a.end.next }) b) (are : AreJoined p kinds after from a b joint) where
+    (first : IsPath p kinds before after R from a) (second : IsPath p kinds before after S (record { at = from.at; next = a.end.next }) b) (are : AreJoined p kinds after a b joint) where
   -- a state that is shown behind a branch is shown behind both
   behind : (part : Part) (equal : Formula) (m : Reading) (t : DynState) → Equates p kinds after part.end.at joint.end.at equal → IsOf p (slice_get kinds) m → holds equal m ≡ true → Shows p kinds after m part.end.at t → Shows p kinds after m joint.end.at t
   behind part equal m t equates of is shown = shows_move p kinds after m m part.end.at joint.end.at t refl (equates.alike m of is) shown
@@ -124,7 +98,7 @@ module _ (p : Posed) (kinds : List Kind) (before after : Vars) (R S : Relation) 
         (run.0, inr run.1, behind b are.second_equal m run.0 are.second_equates of both.1 run.2)
   ]
 
-  joint_point : IsPoint p kinds (suc b.end.next) joint.end.at
+  joint_point : IsPoint p kinds (b.end.next + 1) joint.end.at
   joint_point = are.point (point_more p kinds a.end.next b.end.next a.end.at second.up first.point) second.point
 
   joined_full : (m : Reading) (s t : DynState) → IsOf p (slice_get kinds) m → HasKinds p kinds s → Shows p kinds before m from.at s → Either R S s t → GoesOn p kinds after m from.next joint t

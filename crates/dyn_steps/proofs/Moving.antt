@@ -21,7 +21,7 @@ use Rattle.dyn_core.specs.States.{var_at}
 use Rattle.dyn_steps.specs.declared.point.Point.{Point}
 use Rattle.dyn_steps.specs.Points.{index_of, relation_at, numbered, indices_of, IsPoint}
 use Rattle.dyn_steps.specs.Agreeing.{IsAlike, Agree}
-use Rattle.dyn_steps.specs.Looked.{Vars, kinds_in}
+use Rattle.dyn_steps.specs.Looked.{Vars, kinds_in, IsLooked}
 use Rattle.dyn_steps.specs.Paths.{state_in, Shows}
 
 -- ## the indices of variables
@@ -99,11 +99,6 @@ pub vars_shown : (p : Posed) (kinds : List Kind) (vars : Vars) (m : Reading) (at
 vars_shown p kinds vars m at s shown x k inside is =
     subst (λ r. ShowsValue m k r 0 (var_at s.vars x)) (slot_is at x)
     (shown.values x k (ap (λ b. if b then slice_get kinds x else None) inside ∙ is))
-
--- whether a relation is looked at: of the variables those of the set alone
-abbrev pub IsLooked : Vars → What → Type 0
-IsLooked vars (what.Slot x) = vars x ≡ true
-IsLooked vars w = Unit {0}
 
 pub shows_move : (p : Posed) (kinds : List Kind) (vars : Vars) (m u : Reading) (at to : Point) (s : DynState)
     → u.objects ≡ m.objects

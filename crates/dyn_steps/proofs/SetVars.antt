@@ -37,7 +37,7 @@ use Rattle.dyn_steps.specs.Points.{index_of, relation_at, indices_of, var_moved,
 use Rattle.dyn_steps.specs.Agreeing.{IsAlike, Agree}
 use Rattle.dyn_steps.specs.Looked.{Vars}
 use Rattle.dyn_steps.specs.Paths.{state_in, Shows, GoesOn, IsPath}
-use Rattle.dyn_steps.proofs.Moving.{alike_self, agree_less, agree_on, point_more, value_moves, heap_moves, ShowsVars, shows_both, vars_shown, IsLooked, shows_move, agree_at}
+use Rattle.dyn_steps.proofs.Moving.{alike_self, agree_less, agree_on, point_more, value_moves, heap_moves, ShowsVars, shows_both, vars_shown, shows_move, agree_at}
 use Rattle.dyn_steps.proofs.Readings.{renewed, moved, renewed_of, moved_of, renewed_new, renewed_old, moved_alike}
 
 -- ## the reading of a state, at any index

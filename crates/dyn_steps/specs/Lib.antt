@@ -3,3 +3,4 @@ pub mod Agreeing
 pub mod Looked
 pub mod Paths
 pub mod Meanings
+pub mod Joining

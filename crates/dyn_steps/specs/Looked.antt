@@ -1,7 +1,9 @@
 -- Sets of variables: those that are looked at. (Live variables, as compilers have them; this project's own form.)
-use Rattle.std.specs.Prelude.{ℕ, ◌==◌, Bool, true, not, ◌&&◌, ◌||◌, if◌then◌else◌, List, get_or, slice_get, None}
+use Rattle.std.specs.Prelude.{◌≡◌, ℕ, ◌==◌, Bool, true, not, ◌&&◌, ◌||◌, if◌then◌else◌, List, get_or, slice_get, None}
 use Rattle.taco_unit.specs.declared.kind.Kind.{Kind}
 use Rattle.taco_unit.specs.declared.kind.Kind.TheVariants.{Int}
+use Rattle.rel_core.specs.declared.relation.What.{What}
+use Rattle.rel_core.specs.declared.relation.What.TheVariants as what
 use Rattle.rel_core.specs.Uses.{Kinds}
 use Rattle.dyn_core.specs.declared.prog.Act.{Act}
 use Rattle.dyn_core.specs.declared.prog.Act.TheVariants.{Copy, Const, Sum, Diff, Product, Same, Below, Read, Write, Make}
@@ -42,3 +44,8 @@ looked_at (Below x y z) vars = with_one y (with_one z (without x vars))
 looked_at (Read x y f) vars = with_one y (without x vars)
 looked_at (Write x f y) vars = with_one x (with_one y vars)
 looked_at (Make x c) vars = without x vars
+
+-- whether a relation is looked at: of the variables those of the set alone
+abbrev pub IsLooked : Vars → What → Type 0
+IsLooked vars (what.Slot x) = vars x ≡ true
+IsLooked vars w = Unit {0}

@@ -1,4 +1,0 @@
-//! Path formulas of whole programs: sequences, branches that are joined, and programs without iterations.
-#![tactic(auto)]
-
-mod joining;
