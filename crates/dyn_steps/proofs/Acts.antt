@@ -89,7 +89,8 @@ module _ (p : Posed) (kinds : List Kind) (from : Front) (f : Formula) (well : Is
   abbrev old : ℕ → RelVar
   old y = relation_at from.at (what.Slot y)
 
-  pub copy_step : (x y : ℕ) → ((k : Kind) → slice_get kinds x ≡ Some k → slice_get kinds y ≡ Some k → Sorted) → ((m : Reading) → holds f m ≡ same_variables m (kind_at kinds x) (slot x from.next) (old y)) → IsStep p kinds (Copy x y) from (var_set from x f)
+  pub copy_step : (x y : ℕ) → ((k : Kind) → slice_get kinds x ≡ Some k → slice_get kinds y ≡ Some k → Sorted)
+      → ((m : Reading) → holds f m ≡ same_variables m (kind_at kinds x) (slot x from.next) (old y)) → IsStep p kinds (Copy x y) from (var_set from x f)
   copy_step x y sorted meaning fits point after =
       let k = alike_is kinds x y fits in
       set_path p kinds (looked_at (Copy x y) after) after x k.0 (λ s. Is (var_at s.vars y)) from f well range k.1 point
@@ -100,7 +101,8 @@ module _ (p : Posed) (kinds : List Kind) (from : Front) (f : Formula) (well : Is
       (λ m s of has shown. says_copy p (slice_get kinds) m of k.0 (slot x from.next) (old y) (var_at s.vars y)
           (vars_shown p kinds (looked_at (Copy x y) after) m from.at s shown y k.0 (one_in y (without x after)) k.2)))
 
-  pub const_step : (x : ℕ) (v : Value) → ((k : Kind) → slice_get kinds x ≡ Some k → takes_constant v k ≡ true → Sorted) → ((m : Reading) → holds f m ≡ is_constant m (slot x from.next) v) → IsStep p kinds (Const x v) from (var_set from x f)
+  pub const_step : (x : ℕ) (v : Value) → ((k : Kind) → slice_get kinds x ≡ Some k → takes_constant v k ≡ true → Sorted) → ((m : Reading) → holds f m ≡ is_constant m (slot x from.next) v)
+      → IsStep p kinds (Const x v) from (var_set from x f)
   const_step x v sorted meaning fits point after =
       let k = there_passes (takes_constant v) (slice_get kinds x) fits in
       set_path p kinds (looked_at (Const x v) after) after x k.0 (λ s. constant p.scope.ints v) from f well range k.1 point
@@ -109,7 +111,8 @@ module _ (p : Posed) (kinds : List Kind) (from : Front) (f : Formula) (well : Is
       (sets_from p kinds (looked_at (Const x v) after) x k.0 (λ s. constant p.scope.ints v) from f (λ m. is_constant m (slot x from.next) v) (sorted k.0 k.1 k.2) meaning
       (λ m s of has shown. says m of v k.0 k.2))
     where
-      says : (m : Reading) → IsOf p (slice_get kinds) m → (v : Value) (k : Kind) → takes_constant v k ≡ true → Says m k (slot x from.next) (constant p.scope.ints v) (is_constant m (slot x from.next) v)
+      says : (m : Reading) → IsOf p (slice_get kinds) m → (v : Value) (k : Kind) → takes_constant v k ≡ true
+          → Says m k (slot x from.next) (constant p.scope.ints v) (is_constant m (slot x from.next) v)
       says m of (Num z) kind.Int takes = subst (λ w. Says m kind.Int (slot x from.next) (number w z) (is_number m (slot x from.next) (fitting m.ints z))) of.ints (says_number m (slot x from.next) z)
       says m of (Num z) kind.Flag takes = absurd (false≢true takes)
       says m of (Num z) (kind.Ref c) takes = absurd (false≢true takes)
@@ -155,7 +158,8 @@ module _ (p : Posed) (kinds : List Kind) (from : Front) (f : Formula) (well : Is
       sets_from p kinds (two x y z after) x k (λ s. on_numbers make (var_at s.vars y) (var_at s.vars z)) from f truth sorted meaning (λ m s of has shown.
           let first : var_at s.vars y ≡ Num (m.number (old y) 0) = vars_shown p kinds (two x y z after) m from.at s shown y kind.Int (first_in x y z after) kinds_are.1 in
           let second : var_at s.vars z ≡ Num (m.number (old z) 0) = vars_shown p kinds (two x y z after) m from.at s shown z kind.Int (second_in x y z after) kinds_are.2 in
-          subst (λ e. Says m k (slot x from.next) e (truth m)) (sym (ap (λ v. on_numbers make v (var_at s.vars z)) first ∙ ap (λ v. on_numbers make (Num (m.number (old y) 0)) v) second)) (says m of.ints))
+          subst (λ e. Says m k (slot x from.next) e (truth m)) (sym (ap (λ v. on_numbers make v (var_at s.vars z)) first ∙ ap (λ v. on_numbers make (Num (m.number (old y) 0)) v) second))
+              (says m of.ints))
 
   says_made : (m : Reading) (x : ℕ) (z : ℤ) → m.ints ≡ p.scope.ints → Says m kind.Int (slot x from.next) (number p.scope.ints z) (is_number m (slot x from.next) (fitting m.ints z))
   says_made m x z same = subst (λ w. Says m kind.Int (slot x from.next) (number w z) (is_number m (slot x from.next) (fitting m.ints z))) same (says_number m (slot x from.next) z)
@@ -173,7 +177,8 @@ module _ (p : Posed) (kinds : List Kind) (from : Front) (f : Formula) (well : Is
       set_path p kinds (looked_at (Sum x y z) after) after x kind.Int (λ s. on_numbers (λ a b. number p.scope.ints (a +ℤ b)) (var_at s.vars y) (var_at s.vars z)) from f well range are.0 point
       (rest_in x y z after)
       (λ s t has run. (act_keeps_kinds p kinds well (Sum x y z) s t fits has run).kinded)
-      (operator_sets x y z kind.Int (λ a b. number p.scope.ints (a +ℤ b)) (made (λ a b. a +ℤ b) x y z) after fits (sorted are.0 are.1 are.2) meaning (λ m same. says_made m x (m.number (old y) 0 +ℤ m.number (old z) 0) same))
+      (operator_sets x y z kind.Int (λ a b. number p.scope.ints (a +ℤ b)) (made (λ a b. a +ℤ b) x y z) after fits (sorted are.0 are.1 are.2) meaning
+          (λ m same. says_made m x (m.number (old y) 0 +ℤ m.number (old z) 0) same))
 
   pub difference_step : (x y z : ℕ) → SortedNumbers x kind.Int y z → ((m : Reading) → holds f m ≡ made (λ a b. a -ℤ b) x y z m) → IsStep p kinds (Diff x y z) from (var_set from x f)
   difference_step x y z sorted meaning fits point after =
@@ -181,7 +186,8 @@ module _ (p : Posed) (kinds : List Kind) (from : Front) (f : Formula) (well : Is
       set_path p kinds (looked_at (Diff x y z) after) after x kind.Int (λ s. on_numbers (λ a b. number p.scope.ints (a -ℤ b)) (var_at s.vars y) (var_at s.vars z)) from f well range are.0 point
       (rest_in x y z after)
       (λ s t has run. (act_keeps_kinds p kinds well (Diff x y z) s t fits has run).kinded)
-      (operator_sets x y z kind.Int (λ a b. number p.scope.ints (a -ℤ b)) (made (λ a b. a -ℤ b) x y z) after fits (sorted are.0 are.1 are.2) meaning (λ m same. says_made m x (m.number (old y) 0 -ℤ m.number (old z) 0) same))
+      (operator_sets x y z kind.Int (λ a b. number p.scope.ints (a -ℤ b)) (made (λ a b. a -ℤ b) x y z) after fits (sorted are.0 are.1 are.2) meaning
+          (λ m same. says_made m x (m.number (old y) 0 -ℤ m.number (old z) 0) same))
 
   pub product_step : (x y z : ℕ) → SortedNumbers x kind.Int y z → ((m : Reading) → holds f m ≡ made (λ a b. a *ℤ b) x y z m) → IsStep p kinds (Product x y z) from (var_set from x f)
   product_step x y z sorted meaning fits point after =
@@ -189,7 +195,8 @@ module _ (p : Posed) (kinds : List Kind) (from : Front) (f : Formula) (well : Is
       set_path p kinds (looked_at (Product x y z) after) after x kind.Int (λ s. on_numbers (λ a b. number p.scope.ints (a *ℤ b)) (var_at s.vars y) (var_at s.vars z)) from f well range are.0 point
       (rest_in x y z after)
       (λ s t has run. (act_keeps_kinds p kinds well (Product x y z) s t fits has run).kinded)
-      (operator_sets x y z kind.Int (λ a b. number p.scope.ints (a *ℤ b)) (made (λ a b. a *ℤ b) x y z) after fits (sorted are.0 are.1 are.2) meaning (λ m same. says_made m x (m.number (old y) 0 *ℤ m.number (old z) 0) same))
+      (operator_sets x y z kind.Int (λ a b. number p.scope.ints (a *ℤ b)) (made (λ a b. a *ℤ b) x y z) after fits (sorted are.0 are.1 are.2) meaning
+          (λ m same. says_made m x (m.number (old y) 0 *ℤ m.number (old z) 0) same))
 
   abbrev ordered : ℕ → ℕ → ℕ → Reading → Bool
   ordered x y z m = same_flag (m.flag (slot x from.next) 0) (int_lt (m.number (old y) 0) (m.number (old z) 0))
@@ -200,7 +207,8 @@ module _ (p : Posed) (kinds : List Kind) (from : Front) (f : Formula) (well : Is
       set_path p kinds (looked_at (Below x y z) after) after x kind.Flag (λ s. on_numbers (λ a b. flag (int_lt a b)) (var_at s.vars y) (var_at s.vars z)) from f well range are.0 point
       (rest_in x y z after)
       (λ s t has run. (act_keeps_kinds p kinds well (Below x y z) s t fits has run).kinded)
-      (operator_sets x y z kind.Flag (λ a b. flag (int_lt a b)) (ordered x y z) after fits (sorted are.0 are.1 are.2) meaning (λ m same. says_flag m (slot x from.next) (int_lt (m.number (old y) 0) (m.number (old z) 0))))
+      (operator_sets x y z kind.Flag (λ a b. flag (int_lt a b)) (ordered x y z) after fits (sorted are.0 are.1 are.2) meaning
+          (λ m same. says_flag m (slot x from.next) (int_lt (m.number (old y) 0) (m.number (old z) 0))))
 
   -- ## whether two values are the same
 
@@ -216,7 +224,8 @@ module _ (p : Posed) (kinds : List Kind) (from : Front) (f : Formula) (well : Is
       set_path p kinds (looked_at (Same x y z) after) after x kind.Flag (λ s. same (var_at s.vars y) (var_at s.vars z)) from f well range target point
       (rest_in x y z after)
       (λ s t has run. (act_keeps_kinds p kinds well (Same x y z) s t fits has run).kinded)
-      (sets_from p kinds (looked_at (Same x y z) after) x kind.Flag (λ s. same (var_at s.vars y) (var_at s.vars z)) from f (λ m. same_flag (m.flag (slot x from.next) 0) (same_variables m k.0 (old y) (old z))) (sorted k.0 target k.1 k.2)
+      (sets_from p kinds (looked_at (Same x y z) after) x kind.Flag (λ s. same (var_at s.vars y) (var_at s.vars z)) from f
+          (λ m. same_flag (m.flag (slot x from.next) 0) (same_variables m k.0 (old y) (old z))) (sorted k.0 target k.1 k.2)
       (λ m. meaning m ∙ ap (λ j. same_flag (m.flag (slot x from.next) 0) (same_variables m j (old y) (old z))) (kind_known kinds y k.0 k.1))
       (λ m s of has shown.
           let first = vars_shown p kinds (looked_at (Same x y z) after) m from.at s shown y k.0 (first_in x y z after) k.1 in

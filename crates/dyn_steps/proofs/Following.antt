@@ -29,14 +29,16 @@ module _ (p : Posed) (kinds : List Kind) (before between after : Vars) (R S : Re
     (end : whole.end ≡ b.end)
     (meaning : (m : Reading) → holds whole.formula m ≡ (holds a.formula m && holds b.formula m))
     (sorted : is_sorted p (slice_get kinds) a.formula ≡ true → is_sorted p (slice_get kinds) b.formula ≡ true → is_sorted p (slice_get kinds) whole.formula ≡ true) where
-  then_sound : (m : Reading) (s : DynState) → IsOf p (slice_get kinds) m → holds whole.formula m ≡ true → HasKinds p kinds s → Shows p kinds before m from.at s → (t : DynState) × Then R S s t × Shows p kinds after m b.end.at t
+  then_sound : (m : Reading) (s : DynState) → IsOf p (slice_get kinds) m → holds whole.formula m ≡ true → HasKinds p kinds s → Shows p kinds before m from.at s → (t : DynState)
+      × Then R S s t × Shows p kinds after m b.end.at t
   then_sound m s of is has shown =
       let both = and_parts (holds a.formula m) (holds b.formula m) (sym (meaning m) ∙ is) in
       let one = first.sound m s of both.0 has shown in
       let two = second.sound m one.0 of both.1 (keeps s one.0 has one.1) one.2 in
       (two.0, (one.0, one.1, two.1), two.2)
 
-  then_full : (m : Reading) (s t : DynState) → IsOf p (slice_get kinds) m → HasKinds p kinds s → Shows p kinds before m from.at s → Then R S s t → GoesOn p kinds after m from.next (record { formula = whole.formula; end = b.end }) t
+  then_full : (m : Reading) (s t : DynState) → IsOf p (slice_get kinds) m → HasKinds p kinds s → Shows p kinds before m from.at s → Then R S s t
+      → GoesOn p kinds after m from.next (record { formula = whole.formula; end = b.end }) t
   then_full m s t of has shown run =
       let one = first.full m s run.0 of has shown run.1 in
       let two = second.full one.reading run.0 t one.of_problem (keeps s run.0 has run.1) one.shown run.2 in

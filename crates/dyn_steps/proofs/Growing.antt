@@ -45,7 +45,8 @@ numbers_more : (n : ℕ) → numbers_below (n + 1) ≡ numbers_below n ++ n ∷ 
 numbers_more n = let e : 0 + n ≡ n = omega arith in range_more 0 n ∙ ap (λ x. range_with_len 0 n ++ x ∷ []) e
 
 -- a list that is tested as the numbers below n are, and one more as n is
-pub numbers_gathered : {A : Type 0} (t : A → Bool) (F : ℕ → Bool) (xs ys : List A) (x : A) (n : ℕ) → ys ≡ xs ++ x ∷ [] → list_all t xs ≡ list_all F (numbers_below n) → t x ≡ F n → list_all t ys ≡ list_all F (numbers_below (n + 1))
+pub numbers_gathered : {A : Type 0} (t : A → Bool) (F : ℕ → Bool) (xs ys : List A) (x : A) (n : ℕ) → ys ≡ xs ++ x ∷ [] → list_all t xs ≡ list_all F (numbers_below n) → t x ≡ F n
+    → list_all t ys ≡ list_all F (numbers_below (n + 1))
 numbers_gathered t F xs ys x n is before one =
     ap (list_all t) is ∙ all_more t xs x ∙ ap (λ b. b && t x) before ∙ ap (λ b. list_all F (numbers_below n) && b) one
     ∙ sym (ap (list_all F) (numbers_more n) ∙ all_more F (numbers_below n) n)
@@ -54,7 +55,8 @@ pub all_gathered : {A : Type 0} (t : A → Bool) (xs ys : List A) (x : A) → ys
 all_gathered t xs ys x is before one = ap (list_all t) is ∙ all_more t xs x ∙ and_from (list_all t xs) (t x) before one
 
 -- the same of a list that is gone through
-pub list_gathered : {A : Type 0} (t : A → Bool) (F : ℕ → Bool) (xs ys : List A) (x : A) (fs : List ℕ) (i : ℕ) → ys ≡ xs ++ x ∷ [] → i < length fs → list_all t xs ≡ list_all F (take i fs) → t x ≡ F (get_or fs i 0) → list_all t ys ≡ list_all F (take (i + 1) fs)
+pub list_gathered : {A : Type 0} (t : A → Bool) (F : ℕ → Bool) (xs ys : List A) (x : A) (fs : List ℕ) (i : ℕ) → ys ≡ xs ++ x ∷ [] → i < length fs → list_all t xs ≡ list_all F (take i fs)
+    → t x ≡ F (get_or fs i 0) → list_all t ys ≡ list_all F (take (i + 1) fs)
 list_gathered t F xs ys x fs i is low before one =
     ap (list_all t) is ∙ all_more t xs x ∙ ap (λ b. b && t x) before ∙ ap (λ b. list_all F (take i fs) && b) one
     ∙ sym (ap (list_all F) (take_more fs i 0 low) ∙ all_more F (take i fs) (get_or fs i 0))

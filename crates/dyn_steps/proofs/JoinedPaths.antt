@@ -58,7 +58,8 @@ module _ (p : Posed) (kinds : List Kind) (after : Vars) where
     shown = shows_move p kinds after g.reading reading part.end.at joint.end.at t refl (λ w is. alike w) g.shown;
     holds = λ u of agree.
         let near : Agree (n + 1) reading u = subst (λ k. Agree k reading u) next agree in
-        let below : Agree part.end.next g.reading u = agree_on part.end.next g.reading reading u (agree_less part.end.next n g.reading reading few old) (agree_less part.end.next (n + 1) reading u (omega (arith, few)) near) in
+        let below : Agree part.end.next g.reading u = agree_on part.end.next g.reading reading u (agree_less part.end.next n g.reading reading few old)
+            (agree_less part.end.next (n + 1) reading u (omega (arith, few)) near) in
         either u (g.holds u of below) (equates.holds u of (λ w.
             alike_on (alike_back (agree_at p kinds part.end.next part.end.at g.reading u point below w))
             (alike_on (alike w) (agree_at p kinds (n + 1) joint.end.at reading u whole near w))));
@@ -83,10 +84,12 @@ or_either false y is = inr is
 module _ (p : Posed) (kinds : List Kind) (before after : Vars) (R S : Relation) (from : Front) (a b joint : Part)
     (first : IsPath p kinds before after R from a) (second : IsPath p kinds before after S (record { at = from.at; next = a.end.next }) b) (are : AreJoined p kinds after a b joint) where
   -- a state that is shown behind a branch is shown behind both
-  behind : (part : Part) (equal : Formula) (m : Reading) (t : DynState) → Equates p kinds after part.end.at joint.end.at equal → IsOf p (slice_get kinds) m → holds equal m ≡ true → Shows p kinds after m part.end.at t → Shows p kinds after m joint.end.at t
+  behind : (part : Part) (equal : Formula) (m : Reading) (t : DynState) → Equates p kinds after part.end.at joint.end.at equal → IsOf p (slice_get kinds) m → holds equal m ≡ true
+      → Shows p kinds after m part.end.at t → Shows p kinds after m joint.end.at t
   behind part equal m t equates of is shown = shows_move p kinds after m m part.end.at joint.end.at t refl (equates.alike m of is) shown
 
-  joined_sound : (m : Reading) (s : DynState) → IsOf p (slice_get kinds) m → holds joint.formula m ≡ true → HasKinds p kinds s → Shows p kinds before m from.at s → (t : DynState) × Either R S s t × Shows p kinds after m joint.end.at t
+  joined_sound : (m : Reading) (s : DynState) → IsOf p (slice_get kinds) m → holds joint.formula m ≡ true → HasKinds p kinds s → Shows p kinds before m from.at s → (t : DynState)
+      × Either R S s t × Shows p kinds after m joint.end.at t
   joined_sound m s of is has shown = elim (or_either (holds a.formula m && holds are.first_equal m) (holds b.formula m && holds are.second_equal m) (sym (are.meaning m) ∙ is)) [
     | inl one ↦
         let both = and_parts (holds a.formula m) (holds are.first_equal m) one in
@@ -104,11 +107,13 @@ module _ (p : Posed) (kinds : List Kind) (before after : Vars) (R S : Relation) 
   joined_full : (m : Reading) (s t : DynState) → IsOf p (slice_get kinds) m → HasKinds p kinds s → Shows p kinds before m from.at s → Either R S s t → GoesOn p kinds after m from.next joint t
   joined_full m s t of has shown (inl run) =
       branch_goes_on p kinds after m from.next b.end.next a t joint are.first_equal first.up second.up first.point are.first_joins joint_point are.next are.first_equates
-      (λ u holds_a equal. are.meaning u ∙ or_left (holds a.formula u && holds are.first_equal u) (holds b.formula u && holds are.second_equal u) (and_from (holds a.formula u) (holds are.first_equal u) holds_a equal))
+      (λ u holds_a equal. are.meaning u ∙ or_left (holds a.formula u && holds are.first_equal u) (holds b.formula u && holds are.second_equal u)
+          (and_from (holds a.formula u) (holds are.first_equal u) holds_a equal))
       (first.full m s t of has shown run)
   joined_full m s t of has shown (inr run) =
       less (branch_goes_on p kinds after m a.end.next b.end.next b t joint are.second_equal second.up (omega arith) second.point are.second_joins joint_point are.next are.second_equates
-      (λ u holds_b equal. are.meaning u ∙ or_right (holds a.formula u && holds are.first_equal u) (holds b.formula u && holds are.second_equal u) (and_from (holds b.formula u) (holds are.second_equal u) holds_b equal))
+      (λ u holds_b equal. are.meaning u ∙ or_right (holds a.formula u && holds are.first_equal u) (holds b.formula u && holds are.second_equal u)
+          (and_from (holds b.formula u) (holds are.second_equal u) holds_b equal))
       (second.full m s t of has shown run))
     where
       less : GoesOn p kinds after m a.end.next joint t → GoesOn p kinds after m from.next joint t

@@ -8,9 +8,13 @@ pub mod Saying
 pub mod Acts
 pub mod Combining
 pub mod Places
+pub mod Puts
 pub mod Written
 pub mod Parts
 pub mod Tested
 pub mod MovedFields
+pub mod FirstValues
+pub mod MadeHeap
+pub mod MadeSaid
 pub mod Made
 pub mod Growing

@@ -98,7 +98,8 @@ fields_new [] at f n within listed = absurd (false≢true listed)
 fields_new (g ∷ fs) at f n within listed =
     go (is_listed fs f) refl (λ more. fields_new fs (field_moved at g n) f n (let same = length-set at.fields g n in omega (arith, within, same)) more)
   where
-    go : (b : Bool) → is_listed fs f ≡ b → (is_listed fs f ≡ true → index_of (fields_moved (field_moved at g n) fs n) (what.Field f) ≡ n) → index_of (fields_moved (field_moved at g n) fs n) (what.Field f) ≡ n
+    go : (b : Bool) → is_listed fs f ≡ b → (is_listed fs f ≡ true → index_of (fields_moved (field_moved at g n) fs n) (what.Field f) ≡ n)
+        → index_of (fields_moved (field_moved at g n) fs n) (what.Field f) ≡ n
     go true more rest = rest more
     go false more rest = elim (cases_eq g f) [
       | inl same ↦ fields_kept fs (field_moved at g n) f n more ∙ ap (λ k. get_or (slice_set at.fields k n) f 0) same ∙ get_or-set_same at.fields f n 0 within

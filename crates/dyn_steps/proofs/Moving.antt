@@ -70,14 +70,16 @@ value_moves m r u q kind.Int o v same alike shown = shown ∙ sym (ap Num (alike
 value_moves m r u q kind.Flag o v same alike shown = shown ∙ sym (ap Flag (alike.flag o))
 value_moves m r u q (kind.Ref c) o v same alike shown = (ap (λ k. is_reference k v) same ∙ shown.0, λ w. alike.refs o w ∙ shown.1 w)
 
-pub heap_moves : (p : Parts) (m u : Reading) (at to : Point) (heap : Heap) → u.objects ≡ m.objects → ((w : What) → is_slot w ≡ false → IsAlike m (relation_at at w) u (relation_at to w)) → ShowsHeap p m (indices_of at) heap → ShowsHeap p u (indices_of to) heap
+pub heap_moves : (p : Parts) (m u : Reading) (at to : Point) (heap : Heap) → u.objects ≡ m.objects → ((w : What) → is_slot w ≡ false → IsAlike m (relation_at at w) u (relation_at to w))
+    → ShowsHeap p m (indices_of at) heap → ShowsHeap p u (indices_of to) heap
 heap_moves p m u at to heap same alike shown = record {
   few = subst (λ k. length heap ≤ k) (sym same) shown.few;
   live = λ o. (alike what.Live refl).flag o ∙ shown.live o;
   classes = λ o x there. (alike what.ClassOf refl).number o ∙ shown.classes o x there;
   cells = λ f d o there of.
       let cell = shown.cells f d o there of in
-      record { value = cell.value; is = cell.is; shown = value_moves m (relation_at at (what.Field f)) u (relation_at to (what.Field f)) d.kind o cell.value same (alike (what.Field f) refl) cell.shown };
+      record { value = cell.value; is = cell.is; shown = value_moves m (relation_at at (what.Field f)) u (relation_at to (what.Field f)) d.kind o cell.value same
+          (alike (what.Field f) refl) cell.shown };
   links = λ f d o v there of. (alike (what.Field f) refl).refs o v ∙ shown.links f d o v there of;
 }
 
@@ -85,7 +87,8 @@ heap_moves p m u at to heap same alike shown = record {
 abbrev pub ShowsVars : List Kind → Vars → Reading → Point → DynState → Type 0
 ShowsVars kinds vars m at s = (x : ℕ) (k : Kind) → vars x ≡ true → slice_get kinds x ≡ Some k → ShowsValue m k (relation_at at (what.Slot x)) 0 (var_at s.vars x)
 
-pub shows_both : (p : Posed) (kinds : List Kind) (vars : Vars) (m : Reading) (at : Point) (s : DynState) → ShowsHeap p.unit m (indices_of at) s.objects → ShowsVars kinds vars m at s → Shows p kinds vars m at s
+pub shows_both : (p : Posed) (kinds : List Kind) (vars : Vars) (m : Reading) (at : Point) (s : DynState) → ShowsHeap p.unit m (indices_of at) s.objects → ShowsVars kinds vars m at s
+    → Shows p kinds vars m at s
 shows_both p kinds vars m at s heap values = record {
   heap = heap;
   values = λ x k is. subst (λ r. ShowsValue m k r 0 (var_at s.vars x)) (sym (slot_is at x)) (one x k (vars x) refl is);
@@ -107,7 +110,8 @@ pub shows_move : (p : Posed) (kinds : List Kind) (vars : Vars) (m u : Reading) (
     → Shows p kinds vars u to s
 shows_move p kinds vars m u at to s same alike shown =
     shows_both p kinds vars u to s (heap_moves p.unit m u at to s.objects same heap_alike shown.heap)
-    (λ x k inside is. value_moves m (relation_at at (what.Slot x)) u (relation_at to (what.Slot x)) k 0 (var_at s.vars x) same (alike (what.Slot x) inside) (vars_shown p kinds vars m at s shown x k inside is))
+    (λ x k inside is. value_moves m (relation_at at (what.Slot x)) u (relation_at to (what.Slot x)) k 0 (var_at s.vars x) same (alike (what.Slot x) inside)
+        (vars_shown p kinds vars m at s shown x k inside is))
   where
     heap_alike : (w : What) → is_slot w ≡ false → IsAlike m (relation_at at w) u (relation_at to w)
     heap_alike what.Live is = alike what.Live tt

@@ -39,7 +39,8 @@ module _ (p : Posed) (kinds : List Kind) (well : IsWell p.unit) (range : InRange
   used k r x i is there = ap (λ z. is_variable p (slice_get kinds) (use_of_kind k) z) is ∙ variable_used p kinds x i k there
 
   -- by the kind that was looked up for a variable
-  used_as : (j k : Kind) (y : ℕ) (r : RelVar) (x i : ℕ) → j ≡ kind_at kinds y → slice_get kinds y ≡ Some k → r ≡ slot x i → slice_get kinds x ≡ Some k → is_variable p (slice_get kinds) (use_of_kind j) r ≡ true
+  used_as : (j k : Kind) (y : ℕ) (r : RelVar) (x i : ℕ) → j ≡ kind_at kinds y → slice_get kinds y ≡ Some k → r ≡ slot x i → slice_get kinds x ≡ Some k
+      → is_variable p (slice_get kinds) (use_of_kind j) r ≡ true
   used_as j k y r x i looked_up known is there =
       ap (λ z. is_variable p (slice_get kinds) (use_of_kind z) r) (looked_up ∙ kind_known kinds y k known) ∙ used k r x i is there
 
@@ -81,7 +82,8 @@ module _ (p : Posed) (kinds : List Kind) (well : IsWell p.unit) (range : InRange
   three_sorted k F x y z r a b r_is a_is b_is over target first second =
       over.1 p (slice_get kinds) (used k r x from.next r_is target) (used kind.Int a y _ a_is first) (used kind.Int b z _ b_is second)
 
-  three_meaning : (k : Kind) (F : Reading → RelVar → RelVar → RelVar → Bool) (x y z : ℕ) (r a b : RelVar) → r ≡ new x → a ≡ old y → b ≡ old z → Three k F r a b → (m : Reading) → holds f m ≡ F m (new x) (old y) (old z)
+  three_meaning : (k : Kind) (F : Reading → RelVar → RelVar → RelVar → Bool) (x y z : ℕ) (r a b : RelVar) → r ≡ new x → a ≡ old y → b ≡ old z → Three k F r a b → (m : Reading)
+      → holds f m ≡ F m (new x) (old y) (old z)
   three_meaning k F x y z r a b r_is a_is b_is over m = over.0 m ∙ three (F m) r a b (new x) (old y) (old z) r_is a_is b_is
 
   abbrev computed : (ℤ → ℤ → ℤ) → Reading → RelVar → RelVar → RelVar → Bool
@@ -93,13 +95,15 @@ module _ (p : Posed) (kinds : List Kind) (well : IsWell p.unit) (range : InRange
       subst (λ w. IsStep p kinds (Sum x y z) from w) (sym is)
       (sum_step p kinds from f well range x y z (three_sorted kind.Int F x y z r a b r_is a_is b_is over) (three_meaning kind.Int F x y z r a b r_is a_is b_is over))
 
-  pub difference_part : (x y z : ℕ) (r a b : RelVar) → r ≡ new x → a ≡ old y → b ≡ old z → part ≡ var_set from x f → Three kind.Int (computed (λ i j. i -ℤ j)) r a b → IsStep p kinds (Diff x y z) from part
+  pub difference_part : (x y z : ℕ) (r a b : RelVar) → r ≡ new x → a ≡ old y → b ≡ old z → part ≡ var_set from x f → Three kind.Int (computed (λ i j. i -ℤ j)) r a b
+      → IsStep p kinds (Diff x y z) from part
   difference_part x y z r a b r_is a_is b_is is over =
       let F = computed (λ (i j : ℤ). i -ℤ j) in
       subst (λ w. IsStep p kinds (Diff x y z) from w) (sym is)
       (difference_step p kinds from f well range x y z (three_sorted kind.Int F x y z r a b r_is a_is b_is over) (three_meaning kind.Int F x y z r a b r_is a_is b_is over))
 
-  pub product_part : (x y z : ℕ) (r a b : RelVar) → r ≡ new x → a ≡ old y → b ≡ old z → part ≡ var_set from x f → Three kind.Int (computed (λ i j. i *ℤ j)) r a b → IsStep p kinds (Product x y z) from part
+  pub product_part : (x y z : ℕ) (r a b : RelVar) → r ≡ new x → a ≡ old y → b ≡ old z → part ≡ var_set from x f → Three kind.Int (computed (λ i j. i *ℤ j)) r a b
+      → IsStep p kinds (Product x y z) from part
   product_part x y z r a b r_is a_is b_is is over =
       let F = computed (λ (i j : ℤ). i *ℤ j) in
       subst (λ w. IsStep p kinds (Product x y z) from w) (sym is)
@@ -158,7 +162,8 @@ module _ (p : Posed) (kinds : List Kind) (well : IsWell p.unit) (range : InRange
       subst (λ w. IsStep p kinds (Write x g y) from w) (sym is)
       (write_step p kinds from f x g y well range
       (λ e there object value. sorted p (slice_get kinds) (used (kind.Ref e.class) a x (get_or from.at.vars x 0) a_is object)
-          (ap (λ z. can_change p (slice_get kinds) z b d) r_is ∙ ap (λ z. can_change p (slice_get kinds) (field_at g from.next) z d) b_is ∙ ap (λ z. can_change p (slice_get kinds) (field_at g from.next) (old y) z) d_is
+          (ap (λ z. can_change p (slice_get kinds) z b d) r_is ∙ ap (λ z. can_change p (slice_get kinds) (field_at g from.next) z d) b_is
+              ∙ ap (λ z. can_change p (slice_get kinds) (field_at g from.next) (old y) z) d_is
           ∙ field_changes g y from.next (get_or from.at.vars y 0) (get_or from.at.fields g 0) e there value))
       (λ m. meaning m ∙ ap (λ z. is_through m z && is_changed m r (m.refs z 0) b d) a_is
           ∙ three (λ u v w. is_through m (old x) && is_changed m u (m.refs (old x) 0) v w) r b d (field_at g from.next) (old y) (relation_at from.at (what.Field g)) r_is b_is d_is))

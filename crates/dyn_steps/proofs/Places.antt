@@ -17,6 +17,7 @@ use Rattle.rel_core.specs.Meaning.{ValueSet, has_object, same_at, is_changed}
 use Rattle.rel_core.specs.Uses.{Kinds, Use, AsSet, AsNumber, AsFlag, AsClass, same_use, use_of_kind, use_of, has_use, is_slot, has_place, can_have, is_class_number, IsOf}
 use Rattle.rel_core.specs.Shown.{ShowsValue}
 use Rattle.dyn_steps.specs.Agreeing.{IsAlike}
+use Rattle.dyn_steps.proofs.Readings.{spliced}
 use Rattle.dyn_steps.proofs.Numbers.{all_below, all_numbers, reference_has, references_have}
 use Rattle.dyn_steps.proofs.Saying.{int_same, same_int, flag_same, same_flags, refs_within}
 
@@ -38,10 +39,26 @@ place_at a o = record { refs = a.refs o; number = a.number o; flag = a.flag o }
 pub all_places : (m : Reading) (r : RelVar) (u : Reading) (q : RelVar) → ((o : ℕ) → IsAlikeAt m r o u q o) → IsAlike m r u q
 all_places m r u q each = record { refs = λ o. (each o).refs; number = λ o. (each o).number; flag = λ o. (each o).flag }
 
-pub place_moves : (m : Reading) (r : RelVar) (o : ℕ) (u : Reading) (q : RelVar) (i : ℕ) (k : Kind) (v : Value) → u.objects ≡ m.objects → IsAlikeAt m r o u q i → ShowsValue m k r o v → ShowsValue u k q i v
+pub place_moves : (m : Reading) (r : RelVar) (o : ℕ) (u : Reading) (q : RelVar) (i : ℕ) (k : Kind) (v : Value) → u.objects ≡ m.objects → IsAlikeAt m r o u q i → ShowsValue m k r o v
+    → ShowsValue u k q i v
 place_moves m r o u q i kind.Int v same alike shown = shown ∙ sym (ap Num alike.number)
 place_moves m r o u q i kind.Flag v same alike shown = shown ∙ sym (ap Flag alike.flag)
 place_moves m r o u q i (kind.Ref c) v same alike shown = (ap (λ k. is_reference k v) same ∙ shown.0, λ w. alike.refs w ∙ shown.1 w)
+
+-- a place of a reading that was put together
+pub spliced_first : (test : RelVar → ℕ → Bool) (c m : Reading) (r : RelVar) (o : ℕ) → test r o ≡ true → IsAlikeAt c r o (spliced test c m) r o
+spliced_first test c m r o is = record {
+  refs = λ v. ap (λ b. if b then c.refs r o v else m.refs r o v) is;
+  number = ap (λ b. if b then c.number r o else m.number r o) is;
+  flag = ap (λ b. if b then c.flag r o else m.flag r o) is;
+}
+
+pub spliced_second : (test : RelVar → ℕ → Bool) (c m : Reading) (r : RelVar) (o : ℕ) → test r o ≡ false → IsAlikeAt m r o (spliced test c m) r o
+spliced_second test c m r o is = record {
+  refs = λ v. ap (λ b. if b then c.refs r o v else m.refs r o v) is;
+  number = ap (λ b. if b then c.number r o else m.number r o) is;
+  flag = ap (λ b. if b then c.flag r o else m.flag r o) is;
+}
 
 or_cases : (x y : Bool) → (x || y) ≡ true → (x ≡ true) ⊎ (y ≡ true)
 or_cases true y is = inl refl
@@ -57,7 +74,9 @@ module _ (p : Posed) (kinds : Kinds) (m : Reading) (of : IsOf p kinds m) where
   no_flag r o not_here = false_from_ne_true (m.flag r o) (λ has. false≢true (sym not_here ∙ of.flags r o has))
 
   pub no_number : (r : RelVar) (o : ℕ) → has_place p kinds AsNumber r o ≡ false → has_place p kinds AsClass r o ≡ false → m.number r o ≡ pos 0
-  no_number r o not_number not_class = elim (or_cases (int_eq (m.number r o) (pos 0) || (has_place p kinds AsNumber r o && in_bits p.scope.ints (m.number r o))) (has_place p kinds AsClass r o && is_class_number p (m.number r o)) (of.numbers r o)) [
+  no_number r o not_number not_class = elim
+      (or_cases (int_eq (m.number r o) (pos 0) || (has_place p kinds AsNumber r o && in_bits p.scope.ints (m.number r o))) (has_place p kinds AsClass r o && is_class_number p (m.number r o))
+      (of.numbers r o)) [
     | inl first ↦ elim (or_cases (int_eq (m.number r o) (pos 0)) (has_place p kinds AsNumber r o && in_bits p.scope.ints (m.number r o)) first) [
         | inl zero ↦ int_same (m.number r o) (pos 0) zero
         | inr number ↦ absurd (false≢true (sym not_number ∙ (and_parts (has_place p kinds AsNumber r o) (in_bits p.scope.ints (m.number r o)) number).0))
@@ -136,7 +155,8 @@ module _ (p : Posed) (kinds : Kinds) (m : Reading) (of : IsOf p kinds m) where
         at true below = let low : o < m.objects = ltb-true o m.objects below in same_alike new old o o (sym (chosen_apart o lacks) ∙ all_below test 0 m.objects o is (omega arith) (omega arith))
         at false below = let beyond : nat_lt o p.scope.objects ≡ false = ap (λ k. nat_lt o k) (sym of.objects) ∙ below in beyond_alike old new o o beyond beyond
 
-    pub changed_from : ((o : ℕ) → o < m.objects → has_object s o ≡ true → IsAlikeAt m given 0 m new o) → ((o : ℕ) → has_object s o ≡ false → IsAlikeAt m old o m new o) → is_changed m new s given old ≡ true
+    pub changed_from : ((o : ℕ) → o < m.objects → has_object s o ≡ true → IsAlikeAt m given 0 m new o) → ((o : ℕ) → has_object s o ≡ false → IsAlikeAt m old o m new o)
+        → is_changed m new s given old ≡ true
     changed_from here apart = all_numbers test 0 m.objects (λ o low. each o (omega arith) (has_object s o) refl)
       where
         each : (o : ℕ) → o < m.objects → (b : Bool) → has_object s o ≡ b → test o ≡ true

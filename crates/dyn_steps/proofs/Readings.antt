@@ -132,7 +132,8 @@ module _ (p : Posed) (kinds : Kinds) (some : nat_lt 0 p.scope.objects ≡ true) 
         | inr number ↦
             let both = and_parts (has_place p kinds AsNumber r i) (in_bits p.scope.ints z) number in
             or_left (int_eq z (pos 0) || (has_place p kinds AsNumber r o && in_bits p.scope.ints z)) (has_place p kinds AsClass r o && is_class_number p z)
-            (or_right (int_eq z (pos 0)) (has_place p kinds AsNumber r o && in_bits p.scope.ints z) (and_from (has_place p kinds AsNumber r o) (in_bits p.scope.ints z) (shifted_place AsNumber o both.0) both.1))
+            (or_right (int_eq z (pos 0)) (has_place p kinds AsNumber r o && in_bits p.scope.ints z)
+                (and_from (has_place p kinds AsNumber r o) (in_bits p.scope.ints z) (shifted_place AsNumber o both.0) both.1))
       ]
     | inr class ↦
         let both = and_parts (has_place p kinds AsClass r i) (is_class_number p z) class in

@@ -140,7 +140,8 @@ says_copy p kinds m of kind.Flag r q v there = says_flag_at m r q 0 v there
 says_copy p kinds m of (kind.Ref c) r q v there = says_set p kinds m of c r (m.refs q 0) v there.0 there.1
 
 -- whether two variables have one value
-pub sameness : (p : Posed) (kinds : Kinds) (m : Reading) → IsOf p kinds m → (k : Kind) (r q : RelVar) (u v : Value) → ShowsValue m k r 0 u → ShowsValue m k q 0 v → same u v ≡ flag (same_variables m k r q)
+pub sameness : (p : Posed) (kinds : Kinds) (m : Reading) → IsOf p kinds m → (k : Kind) (r q : RelVar) (u v : Value) → ShowsValue m k r 0 u → ShowsValue m k q 0 v
+    → same u v ≡ flag (same_variables m k r q)
 sameness p kinds m of kind.Int r q u v first second = ap (λ z. same z v) first ∙ ap (λ z. same (Num (m.number r 0)) z) second
 sameness p kinds m of kind.Flag r q u v first second = ap (λ z. same z v) first ∙ ap (λ z. same (Flag (m.flag r 0)) z) second
 sameness p kinds m of (kind.Ref c) r q u v first second = at u v first second

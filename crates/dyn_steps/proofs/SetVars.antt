@@ -73,7 +73,8 @@ state_value p kinds t well range has x k n is =
     (moved_alike first_index at_first (record { what = what.Slot x; index = n })) (shown.values x k is)
 
 -- the value of a field at an object of its class
-pub state_cell : (p : Posed) (kinds : List Kind) (t : DynState) → IsWell p.unit → InRange p → HasKinds p kinds t → (g : ℕ) (d : FieldDef) (o n : ℕ) (v : Value) → slice_get p.unit.fields g ≡ Some d → is_of t.objects d.class o ≡ true
+pub state_cell : (p : Posed) (kinds : List Kind) (t : DynState) → IsWell p.unit → InRange p → HasKinds p kinds t → (g : ℕ) (d : FieldDef) (o n : ℕ) (v : Value)
+    → slice_get p.unit.fields g ≡ Some d → is_of t.objects d.class o ≡ true
     → field p.unit.classes t.objects g (Obj o) ≡ Is v
     → ShowsValue (state_reading p kinds t) d.kind (record { what = what.Field g; index = n }) o v
 state_cell p kinds t well range has g d o n v there of gives =
@@ -89,14 +90,17 @@ state_cell p kinds t well range has g d o n v there of gives =
     is_same is = cc
 
 -- which objects are there, and of which class each is
-pub state_live : (p : Posed) (kinds : List Kind) (t : DynState) → IsWell p.unit → InRange p → HasKinds p kinds t → (o n : ℕ) → (state_reading p kinds t).flag (record { what = what.Live; index = n }) o ≡ nat_lt o (length t.objects)
+pub state_live : (p : Posed) (kinds : List Kind) (t : DynState) → IsWell p.unit → InRange p → HasKinds p kinds t → (o n : ℕ)
+    → (state_reading p kinds t).flag (record { what = what.Live; index = n }) o ≡ nat_lt o (length t.objects)
 state_live p kinds t well range has o n = ((states_are_shown p (slice_get kinds) (state_in t) well range (is_state p kinds t has)).shown (indices_of first_point) first_is).heap.live o
 
-pub state_class : (p : Posed) (kinds : List Kind) (t : DynState) → IsWell p.unit → InRange p → HasKinds p kinds t → (o n c : ℕ) → class_at t.objects o ≡ Some c → (state_reading p kinds t).number (record { what = what.ClassOf; index = n }) o ≡ pos c
+pub state_class : (p : Posed) (kinds : List Kind) (t : DynState) → IsWell p.unit → InRange p → HasKinds p kinds t → (o n c : ℕ) → class_at t.objects o ≡ Some c
+    → (state_reading p kinds t).number (record { what = what.ClassOf; index = n }) o ≡ pos c
 state_class p kinds t well range has o n c is = at (slice_get t.objects o) refl is
   where
     at : (y : Option Object) → slice_get t.objects o ≡ y → option_map (λ (y : Object). y.class) y ≡ Some c → (state_reading p kinds t).number (record { what = what.ClassOf; index = n }) o ≡ pos c
-    at (Some y) there is = ((states_are_shown p (slice_get kinds) (state_in t) well range (is_state p kinds t has)).shown (indices_of first_point) first_is).heap.classes o y there ∙ ap pos (some_same is)
+    at (Some y) there is = ((states_are_shown p (slice_get kinds) (state_in t) well range (is_state p kinds t has)).shown (indices_of first_point) first_is).heap.classes o y there
+        ∙ ap pos (some_same is)
     at None there is = absurd (none_some is)
 
 -- ## a variable at another index
@@ -151,9 +155,11 @@ var_shown_after p kinds before after m at n x k s v within there kept shown valu
       | inl same ↦
           let one : k ≡ l = some_same (sym there ∙ ap (slice_get kinds) (sym same) ∙ is) in
           let now : v ≡ var_at (with_var s.vars x v) y = sym (ap (var_at (with_var s.vars x v)) same ∙ var_set s.vars x v) in
-          let at_x : ShowsValue m l (record { what = what.Slot x; index = n }) 0 (var_at (with_var s.vars x v) y) = subst (λ u. ShowsValue m l (record { what = what.Slot x; index = n }) 0 u) now (subst (λ j. ShowsValue m j (record { what = what.Slot x; index = n }) 0 v) one value) in
+          let at_x : ShowsValue m l (record { what = what.Slot x; index = n }) 0 (var_at (with_var s.vars x v) y) = subst
+              (λ u. ShowsValue m l (record { what = what.Slot x; index = n }) 0 u) now (subst (λ j. ShowsValue m j (record { what = what.Slot x; index = n }) 0 v) one value) in
           let index : n ≡ index_of (var_moved at x n) (what.Slot x) = sym (var_index at x n within) in
-          let here : ShowsValue m l (relation_at (var_moved at x n) (what.Slot x)) 0 (var_at (with_var s.vars x v) y) = subst (λ i. ShowsValue m l (record { what = what.Slot x; index = i }) 0 (var_at (with_var s.vars x v) y)) index at_x in
+          let here : ShowsValue m l (relation_at (var_moved at x n) (what.Slot x)) 0 (var_at (with_var s.vars x v) y) = subst
+              (λ i. ShowsValue m l (record { what = what.Slot x; index = i }) 0 (var_at (with_var s.vars x v) y)) index at_x in
           subst (λ z. ShowsValue m l (relation_at (var_moved at x n) (what.Slot z)) 0 (var_at (with_var s.vars x v) y)) (sym same) here
       | inr apart ↦
           let old : ShowsValue m l (relation_at at (what.Slot y)) 0 (var_at s.vars y) = vars_shown p kinds before m at s shown y l (kept y inside apart) is in
@@ -204,7 +210,8 @@ module _ (p : Posed) (kinds : List Kind) (before after : Vars) (x : ℕ) (k : Ki
   within : x < length from.at.vars
   within = let low : x < length kinds = slice_get_within kinds x k there in let vars = point.vars in omega (arith, low, vars)
 
-  set_sound : (m : Reading) (s : DynState) → IsOf p (slice_get kinds) m → holds f m ≡ true → HasKinds p kinds s → Shows p kinds before m from.at s → (t : DynState) × Gives x eval s t × Shows p kinds after m set_part.end.at t
+  set_sound : (m : Reading) (s : DynState) → IsOf p (slice_get kinds) m → holds f m ≡ true → HasKinds p kinds s → Shows p kinds before m from.at s → (t : DynState) × Gives x eval s t
+      × Shows p kinds after m set_part.end.at t
   set_sound m s of is has shown =
       let v = sets.sound m s of has shown is in
       (record s { vars = with_var s.vars x v.0 }, ap (with_given x s) v.1, var_shown_after p kinds before after m from.at from.next x k s v.0 within there kept shown v.2)
@@ -217,7 +224,8 @@ module _ (p : Posed) (kinds : List Kind) (before after : Vars) (x : ℕ) (k : Ki
     shown = subst (λ z. Shows p kinds after reading set_part.end.at z) v.2 (var_shown_after p kinds before after reading from.at from.next x k s v.0 within there kept shown_on value_on);
     holds = λ u is agree.
         let near : Agree from.next reading u = agree_less from.next (from.next + 1) reading u (omega arith) agree in
-        sets.full u s v.0 is has (shows_move p kinds before reading u from.at from.at s (is.objects ∙ sym of.objects) (λ w looked. agree_at p kinds from.next from.at reading u point near w) shown_on) v.1
+        sets.full u s v.0 is has (shows_move p kinds before reading u from.at from.at s (is.objects ∙ sym of.objects)
+            (λ w looked. agree_at p kinds from.next from.at reading u point near w) shown_on) v.1
         (value_moves reading new u new k 0 v.0 (is.objects ∙ sym of.objects) (agree new (omega arith)) value_on);
   }
     where

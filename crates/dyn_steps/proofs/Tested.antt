@@ -36,7 +36,8 @@ use Rattle.dyn_steps.proofs.Places.{IsAlikeAt, place_at, all_places, no_refs, no
 
 -- ## sets of variables
 
-pub shows_less : (p : Posed) (kinds : List Kind) (more less : Vars) (m : Reading) (at : _) (s : DynState) → ((x : ℕ) → less x ≡ true → more x ≡ true) → Shows p kinds more m at s → Shows p kinds less m at s
+pub shows_less : (p : Posed) (kinds : List Kind) (more less : Vars) (m : Reading) (at : _) (s : DynState) → ((x : ℕ) → less x ≡ true → more x ≡ true) → Shows p kinds more m at s
+    → Shows p kinds less m at s
 shows_less p kinds more less m at s each shown = shows_both p kinds less m at s shown.heap (λ x k inside is. vars_shown p kinds more m at s shown x k (each x inside) is)
 
 -- a part stays one where more is looked at before it, and less after it
@@ -246,7 +247,8 @@ slot_part p kinds w x new old k left right f is kind_is left_is right_is meaning
     at None has known = absurd (false≢true known)
 
 -- a relation that is of no variable can be the same at another index
-pub copy_changes : (p : Posed) (kinds : Kinds) (w : What) (new old : ℕ) → is_slot w ≡ false → is_some (use_of p kinds w) ≡ true → can_change p kinds (record { what = w; index = new }) (record { what = w; index = old }) (record { what = w; index = old }) ≡ true
+pub copy_changes : (p : Posed) (kinds : Kinds) (w : What) (new old : ℕ) → is_slot w ≡ false → is_some (use_of p kinds w) ≡ true
+    → can_change p kinds (record { what = w; index = new }) (record { what = w; index = old }) (record { what = w; index = old }) ≡ true
 copy_changes p kinds what.Live new old spread known = refl
 copy_changes p kinds what.ClassOf new old spread known = refl
 copy_changes p kinds (what.Field g) new old spread known =

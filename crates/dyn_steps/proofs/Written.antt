@@ -46,11 +46,12 @@ use Rattle.dyn_steps.specs.Meanings.{is_through}
 use Rattle.dyn_steps.specs.Paths.{Shows, Acts, GoesOn, IsPath, IsStep, field_set}
 use Rattle.dyn_steps.proofs.Moving.{agree_less, agree_at, value_moves, ShowsVars, shows_both, vars_shown, shows_move}
 use Rattle.dyn_steps.proofs.Readings.{renewed, moved, spliced, renewed_of, moved_of, spliced_of, renewed_new, renewed_old, moved_alike}
+use Rattle.dyn_steps.proofs.Puts.{is_of_class, put_works}
 use Rattle.dyn_steps.proofs.Numbers.{through_is}
 use Rattle.dyn_steps.proofs.Saying.{object_set, object_low}
 use Rattle.dyn_steps.proofs.SetVars.{state_reading, state_of, state_cell}
 use Rattle.dyn_steps.proofs.Acts.{one_in, more_in}
-use Rattle.dyn_steps.proofs.Places.{IsAlikeAt, place_back, place_on, place_at, place_moves, changed_here, changed_apart, changed_from, shown_alike}
+use Rattle.dyn_steps.proofs.Places.{spliced_first, spliced_second, IsAlikeAt, place_back, place_on, place_at, place_moves, changed_here, changed_apart, changed_from, shown_alike}
 
 -- ## a field at another index
 
@@ -81,51 +82,11 @@ field_point p kinds n at g within point = record {
 
 -- ## heaps
 
--- an object of a class, by the class at its number
-pub is_of_class : (heap : Heap) (c o : ℕ) → is_of heap c o ≡ option_map_or (λ k. k == c) (class_at heap o) false
-is_of_class heap c o = go (slice_get heap o)
-  where
-    go : (x : Option Object) → option_map_or (λ x. x.class == c) x false ≡ option_map_or (λ k. k == c) (option_map (λ x. x.class) x) false
-    go None = refl
-    go (Some x) = refl
-
--- a field that has a value can be set
-put_works : (classes : List ClassDef) (heap : Heap) (g o : ℕ) (v w : Value) → field classes heap g (Obj o) ≡ Is w → (after : Heap) × (put classes heap g o v ≡ Some after)
-put_works classes heap g o v w is = at (slice_get heap o) is
-  where
-    within : (x : Object) (i : ℕ) (c : Option Value) → slice_get x.cells i ≡ c → value_in c ≡ Is w → (after : Heap) × (put_cell heap o x v i ≡ Some after)
-    within x i (Some u) cell is =
-        let low : nat_lt i (length x.cells) ≡ true = lt-ltb i (length x.cells) (slice_get_within x.cells i u cell) in
-        (slice_set heap o (record x { cells = slice_set x.cells i v }), ap (λ b. if b then Some (slice_set heap o (record x { cells = slice_set x.cells i v })) else None) low)
-    within x i None cell is = absurd (cc)
-
-    placed : (x : Object) (i : Option ℕ) → value_in (option_and_then (λ i. slice_get x.cells i) i) ≡ Is w → (after : Heap) × (option_and_then (put_cell heap o x v) i ≡ Some after)
-    placed x (Some i) is = within x i (slice_get x.cells i) refl is
-    placed x None is = absurd (cc)
-
-    at : (x : Option Object) → cell_of classes g x ≡ Is w → (after : Heap) × (option_and_then (λ x. option_and_then (put_cell heap o x v) (place_of classes x.class g)) x ≡ Some after)
-    at (Some x) is = placed x (place_of classes x.class g) is
-    at None is = absurd (cc)
-
 -- the references of a relation that shows a value of class kind
 refs_of_class : (m : Reading) (k : Kind) (r : RelVar) (o : ℕ) (v w : Value) → is_class_kind k ≡ true → ShowsValue m k r o v → m.refs r o w ≡ is_value v w
 refs_of_class m (kind.Ref c) r o v w is shown = shown.1 w
 refs_of_class m kind.Int r o v w is shown = absurd (false≢true is)
 refs_of_class m kind.Flag r o v w is shown = absurd (false≢true is)
-
-pub spliced_first : (test : RelVar → ℕ → Bool) (c m : Reading) (r : RelVar) (o : ℕ) → test r o ≡ true → IsAlikeAt c r o (spliced test c m) r o
-spliced_first test c m r o is = record {
-  refs = λ v. ap (λ b. if b then c.refs r o v else m.refs r o v) is;
-  number = ap (λ b. if b then c.number r o else m.number r o) is;
-  flag = ap (λ b. if b then c.flag r o else m.flag r o) is;
-}
-
-pub spliced_second : (test : RelVar → ℕ → Bool) (c m : Reading) (r : RelVar) (o : ℕ) → test r o ≡ false → IsAlikeAt m r o (spliced test c m) r o
-spliced_second test c m r o is = record {
-  refs = λ v. ap (λ b. if b then c.refs r o v else m.refs r o v) is;
-  number = ap (λ b. if b then c.number r o else m.number r o) is;
-  flag = ap (λ b. if b then c.flag r o else m.flag r o) is;
-}
 
 module _ (p : Posed) (kinds : List Kind) (from : Front) (g : ℕ) (d : FieldDef) (there : slice_get p.unit.fields g ≡ Some d) (point : IsPoint p kinds from.next from.at) where
   abbrev new : RelVar
@@ -186,13 +147,15 @@ module _ (p : Posed) (kinds : List Kind) (from : Front) (g : ℕ) (d : FieldDef)
       one_field : (h : ℕ) (e : FieldDef) → h ≡ g → slice_get p.unit.fields h ≡ Some e → d ≡ e
       one_field h e same is = some_same (sym there ∙ ap (slice_get p.unit.fields) (sym same) ∙ is)
 
-      cell_shown : (h : ℕ) (e : FieldDef) (q : ℕ) → slice_get p.unit.fields h ≡ Some e → is_of heap e.class q ≡ true → (h ≡ g) ⊎ (h ≡ g → ⊥) → (q ≡ o) ⊎ (q ≡ o → ⊥) → ShowsCell p.unit m (indices_of to) after h e q
+      cell_shown : (h : ℕ) (e : FieldDef) (q : ℕ) → slice_get p.unit.fields h ≡ Some e → is_of heap e.class q ≡ true → (h ≡ g) ⊎ (h ≡ g → ⊥) → (q ≡ o) ⊎ (q ≡ o → ⊥)
+          → ShowsCell p.unit m (indices_of to) after h e q
       cell_shown h e q is of (inl same) (inl place) = record {
         value = v;
         is = at_new h q same place;
         shown =
             let one : ShowsValue m d.kind new o v = place_moves m given 0 m new o d.kind v refl here value in
-            subst (λ r. ShowsValue m e.kind r q v) (sym (moved_new h same)) (subst (λ i. ShowsValue m e.kind new i v) (sym place) (subst (λ (z : FieldDef). ShowsValue m z.kind new o v) (one_field h e same is) one));
+            subst (λ r. ShowsValue m e.kind r q v) (sym (moved_new h same))
+                (subst (λ i. ShowsValue m e.kind new i v) (sym place) (subst (λ (z : FieldDef). ShowsValue m z.kind new o v) (one_field h e same is) one));
       }
       cell_shown h e q is of (inl same) (inr other) =
           let cell = shown.cells h e q is of in
@@ -222,7 +185,8 @@ module _ (p : Posed) (kinds : List Kind) (from : Front) (g : ℕ) (d : FieldDef)
   -- ## the part
 
   module _ (x y : ℕ) (f : Formula) (well : IsWell p.unit) (range : InRange p) (object : slice_get kinds x ≡ Some (kind.Ref d.class)) (value : slice_get kinds y ≡ Some d.kind)
-      (meaning : (m : Reading) → holds f m ≡ (is_through m (relation_at from.at (what.Slot x)) && is_changed m new (m.refs (relation_at from.at (what.Slot x)) 0) (relation_at from.at (what.Slot y)) old))
+      (meaning : (m : Reading) → holds f m ≡ (is_through m (relation_at from.at (what.Slot x)) && is_changed m new (m.refs (relation_at from.at (what.Slot x)) 0)
+          (relation_at from.at (what.Slot y)) old))
       (sorted : is_sorted p (slice_get kinds) f ≡ true) (after : Vars)
       (keeps : (s t : DynState) → HasKinds p kinds s → Acts p (Write x g y) s t → HasKinds p kinds t) where
     abbrev Of : Reading → Type 0
@@ -255,7 +219,8 @@ module _ (p : Posed) (kinds : List Kind) (from : Front) (g : ℕ) (d : FieldDef)
       pub ends : record s { objects = heap } ≡ t
 
     -- what is shown after it
-    written_shown : (m : Reading) (s t : DynState) (w : Writes s t) → Before m s → IsAlikeAt m given 0 m new w.place → ((q : ℕ) → (q ≡ w.place → ⊥) → IsAlikeAt m old q m new q) → Shows p kinds after m to t
+    written_shown : (m : Reading) (s t : DynState) (w : Writes s t) → Before m s → IsAlikeAt m given 0 m new w.place → ((q : ℕ) → (q ≡ w.place → ⊥) → IsAlikeAt m old q m new q)
+        → Shows p kinds after m to t
     written_shown m s t w shown here apart = subst (λ z. Shows p kinds after m to z) w.ends
         (shows_both p kinds after m to (record s { objects = w.heap })
         (written_heap m s.objects w.heap w.place (var_at s.vars y) given w.put shown.heap (value_shown m s shown) here apart)
@@ -269,7 +234,8 @@ module _ (p : Posed) (kinds : List Kind) (from : Front) (g : ℕ) (d : FieldDef)
     low m s o is shown = object_low m d.class through o (subst (λ v. ShowsValue m (kind.Ref d.class) through 0 v) is (object_shown m s shown))
 
     -- what the formula says of a write
-    sound_at : (m : Reading) (s : DynState) (v : Value) → Of m → HasKinds p kinds s → Before m s → var_at s.vars x ≡ v → is_through m through ≡ true → is_changed m new (m.refs through 0) given old ≡ true
+    sound_at : (m : Reading) (s : DynState) (v : Value) → Of m → HasKinds p kinds s → Before m s → var_at s.vars x ≡ v → is_through m through ≡ true
+        → is_changed m new (m.refs through 0) given old ≡ true
         → (t : DynState) × Acts p (Write x g y) s t × Shows p kinds after m to t
     sound_at m s Null of has shown is open_way changed =
         let null : m.refs through 0 Null ≡ true = (object_shown m s shown).1 Null ∙ ap (λ v. is_value v Null) is in
@@ -280,9 +246,11 @@ module _ (p : Posed) (kinds : List Kind) (from : Front) (g : ℕ) (d : FieldDef)
         let done = put_works p.unit.classes s.objects g o (var_at s.vars y) cell.value cell.is in
         let t : DynState = record s { objects = done.0 } in
         let w : Writes s t = record { place = o; heap = done.0; is_object = is; put = put_is p.unit.classes s.objects g o (var_at s.vars y) done.0 done.1; ends = refl } in
-        let acts : Acts p (Write x g y) s t = ap (λ v. option_map (λ h. record s { objects = h }) (put_through p.unit.classes s.objects g v (var_at s.vars y))) is ∙ ap (option_map (λ h. record s { objects = h })) done.1 in
+        let acts : Acts p (Write x g y) s t = ap (λ v. option_map (λ h. record s { objects = h }) (put_through p.unit.classes s.objects g v (var_at s.vars y))) is
+            ∙ ap (option_map (λ h. record s { objects = h })) done.1 in
         let here = changed_here p (slice_get kinds) m of new (m.refs through 0) given old changed o (low m s o is shown) (alone m s o is shown o ∙ eq-eqb o o refl) in
-        (t, acts, written_shown m s t w shown here (λ q apart. changed_apart p (slice_get kinds) m of new (m.refs through 0) given old changed q (alone m s o is shown q ∙ ne_eqb o q (λ same. apart (sym same)))))
+        (t, acts, written_shown m s t w shown here
+            (λ q apart. changed_apart p (slice_get kinds) m of new (m.refs through 0) given old changed q (alone m s o is shown q ∙ ne_eqb o q (λ same. apart (sym same)))))
     sound_at m s (Num z) of has shown is open_way changed = absurd (false≢true (ap (has_kind p.scope.ints s.objects (kind.Ref d.class)) (sym is) ∙ has.vars x (kind.Ref d.class) object))
     sound_at m s (Flag b) of has shown is open_way changed = absurd (false≢true (ap (has_kind p.scope.ints s.objects (kind.Ref d.class)) (sym is) ∙ has.vars x (kind.Ref d.class) object))
 
@@ -323,14 +291,16 @@ module _ (p : Posed) (kinds : List Kind) (from : Front) (g : ℕ) (d : FieldDef)
       shown = written_shown (reading_at m t w.place) s t w shown_on here_on apart_on;
       holds = λ u is agree.
           let near : Agree from.next (reading_at m t w.place) u = agree_less from.next (from.next + 1) (reading_at m t w.place) u (omega arith) agree in
-          let shown_u : Before u s = shows_move p kinds before (reading_at m t w.place) u from.at from.at s (is.objects ∙ sym reading_of.objects) (λ z looked. agree_at p kinds from.next from.at (reading_at m t w.place) u point near z) shown_on in
+          let shown_u : Before u s = shows_move p kinds before (reading_at m t w.place) u from.at from.at s (is.objects ∙ sym reading_of.objects)
+              (λ z looked. agree_at p kinds from.next from.at (reading_at m t w.place) u point near z) shown_on in
           let new_u : IsAlike (reading_at m t w.place) new u new = agree new (omega arith) in
           let null : u.refs through 0 Null ≡ false = (object_shown u s shown_u).1 Null ∙ ap (λ v. is_value v Null) w.is_object in
           meaning u ∙ and_from (is_through u through) (is_changed u new (u.refs through 0) given old) (through_is u through ∙ ap not null)
           (changed_from p (slice_get kinds) u is new (u.refs through 0) given old
           (λ q below one.
               let same : w.place ≡ q = eqb-true w.place q (sym (alone u s w.place w.is_object shown_u q) ∙ one) in
-              subst (λ i. IsAlikeAt u given 0 u new i) same (place_on (place_back (place_at (agree_at p kinds from.next from.at (reading_at m t w.place) u point near (what.Slot y)) 0)) (place_on here_on (place_at new_u w.place))))
+              subst (λ i. IsAlikeAt u given 0 u new i) same
+                  (place_on (place_back (place_at (agree_at p kinds from.next from.at (reading_at m t w.place) u point near (what.Slot y)) 0)) (place_on here_on (place_at new_u w.place))))
           (λ q lacks.
               let other : q ≡ w.place → ⊥ = λ same. false≢true (sym lacks ∙ alone u s w.place w.is_object shown_u q ∙ eq-eqb w.place q (sym same)) in
               place_on (place_back (place_at (agree_at p kinds from.next from.at (reading_at m t w.place) u point near (what.Field g)) q)) (place_on (apart_on q other) (place_at new_u q))));
@@ -343,7 +313,9 @@ module _ (p : Posed) (kinds : List Kind) (from : Front) (g : ℕ) (d : FieldDef)
         has_after = keeps s t has run
 
         reading_of : Of (reading_at m t w.place)
-        reading_of = renewed_of p (slice_get kinds) from.next (chosen_at m t w.place) m (spliced_of p (slice_get kinds) (at_place w.place) (state_reading p kinds t) (moved (index_of from.at) m) (state_of p kinds t well range has_after) (moved_of p (slice_get kinds) (index_of from.at) m of)) of
+        reading_of = renewed_of p (slice_get kinds) from.next (chosen_at m t w.place) m
+            (spliced_of p (slice_get kinds) (at_place w.place) (state_reading p kinds t) (moved (index_of from.at) m) (state_of p kinds t well range has_after)
+            (moved_of p (slice_get kinds) (index_of from.at) m of)) of
 
         agrees : Agree from.next m (reading_at m t w.place)
         agrees = renewed_old from.next (chosen_at m t w.place) m
@@ -370,11 +342,13 @@ module _ (p : Posed) (kinds : List Kind) (from : Front) (g : ℕ) (d : FieldDef)
         gives_value : field p.unit.classes t.objects g (Obj w.place) ≡ Is (var_at s.vars y)
         gives_value =
             let both : (w.place == w.place && g == g) ≡ true = and_from (w.place == w.place) (g == g) (eq-eqb w.place w.place refl) (eq-eqb g g refl) in
-            ap (λ (z : DynState). field p.unit.classes z.objects g (Obj w.place)) (sym w.ends) ∙ put_field w.put g w.place ∙ ap (λ b. if b then Is (var_at s.vars y) else field p.unit.classes s.objects g (Obj w.place)) both
+            ap (λ (z : DynState). field p.unit.classes z.objects g (Obj w.place)) (sym w.ends) ∙ put_field w.put g w.place
+                ∙ ap (λ b. if b then Is (var_at s.vars y) else field p.unit.classes s.objects g (Obj w.place)) both
 
         here_on : IsAlikeAt (reading_at m t w.place) given 0 (reading_at m t w.place) new w.place
         here_on =
-            let at_state : ShowsValue (state_reading p kinds t) d.kind new w.place (var_at s.vars y) = state_cell p kinds t well range has_after g d w.place from.next (var_at s.vars y) there there_object gives_value in
+            let at_state : ShowsValue (state_reading p kinds t) d.kind new w.place (var_at s.vars y) = state_cell p kinds t well range has_after g d w.place from.next
+                (var_at s.vars y) there there_object gives_value in
             let at_chosen = place_on (spliced_first (at_place w.place) (state_reading p kinds t) (moved (index_of from.at) m) new w.place (eq-eqb w.place w.place refl)) (place_at new_on w.place) in
             shown_alike p (slice_get kinds) (reading_at m t w.place) (reading_at m t w.place) reading_of reading_of d.kind given 0 new w.place (var_at s.vars y)
             (ap (option_map use_of_kind) value) (ap (option_map (λ (e : FieldDef). use_of_kind e.kind)) there)
@@ -399,7 +373,8 @@ pub write_step :
     → IsWell p.unit
     → InRange p
     → ((d : FieldDef) → slice_get p.unit.fields g ≡ Some d → slice_get kinds x ≡ Some (kind.Ref d.class) → slice_get kinds y ≡ Some d.kind → is_sorted p (slice_get kinds) f ≡ true)
-    → ((m : Reading) → holds f m ≡ (is_through m (relation_at from.at (what.Slot x)) && is_changed m (record { what = what.Field g; index = from.next }) (m.refs (relation_at from.at (what.Slot x)) 0) (relation_at from.at (what.Slot y)) (relation_at from.at (what.Field g))))
+    → ((m : Reading) → holds f m ≡ (is_through m (relation_at from.at (what.Slot x)) && is_changed m (record { what = what.Field g; index = from.next })
+        (m.refs (relation_at from.at (what.Slot x)) 0) (relation_at from.at (what.Slot y)) (relation_at from.at (what.Field g))))
     → IsStep p kinds (Write x g y) from (field_set from g f)
 write_step p kinds from f x g y well range sorted meaning fits point after =
     let d = field_is p.unit kinds g x y fits in

@@ -5,6 +5,7 @@ mod acting;
 mod equations;
 mod heap_steps;
 mod making;
+mod objects;
 mod part;
 mod point;
 mod sameness;

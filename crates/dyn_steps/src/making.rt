@@ -1,6 +1,6 @@
 //! The part of a new object.
 
-ghost use Rattle.std.specs.Prelude.{◌≡◌, ◌≤◌, ◌+◌, ◌-◌, ◌&&◌, ◌||◌, not, ◌==◌, List, IfOk, IsTrue, nat_lt, Some, is_some, slice_get};
+ghost use Rattle.std.specs.Prelude.{◌≡◌, ◌+◌, ◌-◌, ◌&&◌, not, List, IfOk, IsTrue, nat_lt, Some, is_some, slice_get};
 ghost use Rattle.std.specs.List.{list_all};
 ghost use Rattle.std.specs.Option.{option_copied};
 ghost use Rattle.heap_core.specs.Outcomes.{is_null, is_object};
@@ -16,9 +16,11 @@ ghost use Rattle.dyn_steps.specs.Paths.{IsPath, IsStep};
 ghost use Rattle.rel_core.specs.Reading.{Reading, numbers_below};
 ghost use Rattle.rel_core.specs.Meaning.{are_of, holds, joined, set_of};
 ghost use Rattle.rel_core.specs.Uses.{Kinds, AsClass, AsFlag, AsNumber, AsSet, is_sorted, is_sorted_set, is_spread, is_variable, use_of_kind};
-ghost use Rattle.dyn_steps.specs.Meanings.{there, is_next as is_next_lem, is_placed as is_placed_lem, is_first as is_first_lem, same_sets, is_grown, is_made, changes, field_kind, live_grown as live_grown_lem, class_grown as class_grown_lem, field_grown as field_grown_lem};
+ghost use Rattle.dyn_steps.specs.Meanings.{there, is_placed as is_placed_lem, is_first as is_first_lem, same_sets};
+ghost use Rattle.dyn_steps.specs.Meanings.{is_grown, is_made, changes, field_kind, live_grown as live_grown_lem, class_grown as class_grown_lem, field_grown as field_grown_lem};
 
 use crate::heap_steps::is_written;
+use crate::objects::{all_placed, has_room, is_not_there, is_there};
 use crate::part::{Basis, Front, Part};
 use crate::point::with_new;
 use crate::setting::{next_index, slot};
@@ -28,114 +30,6 @@ use rel_core::{Formula, NumExpr, RelExpr, RelVar, What};
 use sqlite_items::{Boxed, Items, at};
 use std::alloc::Global;
 use taco_unit::{ClassDef, FieldDef, Kind};
-
-/// The flag of a relation at an object.
-fn is_there(alloc: Global, live: RelVar, object: u8) -> Result<Boxed<Formula>, NoMemory>
-    ensures meaning { IfOk result (λ r. (m : Reading) → holds r m ≡ there m live object) }
-    ensures sorted { IfOk result (λ r. (p : Posed) (kinds : Kinds) → IsTrue (nat_lt object p.scope.objects) → IsTrue (is_spread p kinds AsFlag live) → IsTrue (is_sorted p kinds r)) }
-{
-    let set = RelExpr::object(alloc, object)?;
-    let flag = Formula::flag_at(alloc, set, live)?;
-    Ok(flag)
-}
-
-/// The flag of a relation at an object is false.
-fn is_not_there(alloc: Global, live: RelVar, object: u8) -> Result<Boxed<Formula>, NoMemory>
-    ensures meaning { IfOk result (λ r. (m : Reading) → holds r m ≡ not (there m live object)) }
-    ensures sorted { IfOk result (λ r. (p : Posed) (kinds : Kinds) → IsTrue (nat_lt object p.scope.objects) → IsTrue (is_spread p kinds AsFlag live) → IsTrue (is_sorted p kinds r)) }
-{
-    let flag = is_there(alloc, live, object)?;
-    let opposite = Formula::not(alloc, flag)?;
-    Ok(opposite)
-}
-
-/// An object is the first, or the one before it is there.
-fn follows(alloc: Global, live: RelVar, object: u8) -> Result<Boxed<Formula>, NoMemory>
-    ensures meaning { IfOk result (λ r. (m : Reading) → holds r m ≡ (object == 0 || there m live (object - 1))) }
-    ensures sorted { IfOk result (λ r. (p : Posed) (kinds : Kinds) → IsTrue (nat_lt object p.scope.objects) → IsTrue (is_spread p kinds AsFlag live) → IsTrue (is_sorted p kinds r)) }
-{
-    if object == 0 {
-        let always = Formula::constant(alloc, true)?;
-        Ok(always)
-    } else {
-        let flag = is_there(alloc, live, object - 1)?;
-        Ok(flag)
-    }
-}
-
-/// An object is not there, and the one before it is.
-fn is_next(alloc: Global, live: RelVar, object: u8) -> Result<Boxed<Formula>, NoMemory>
-    ensures meaning { IfOk result (λ r. (m : Reading) → holds r m ≡ is_next_lem m live object) }
-    ensures sorted { IfOk result (λ r. (p : Posed) (kinds : Kinds) → IsTrue (nat_lt object p.scope.objects) → IsTrue (is_spread p kinds AsFlag live) → IsTrue (is_sorted p kinds r)) }
-{
-    let free = is_not_there(alloc, live, object)?;
-    let before = follows(alloc, live, object)?;
-    let both = Formula::both(alloc, free, before)?;
-    Ok(both)
-}
-
-/// A variable is this object.
-fn is_the_object(
-    alloc: Global,
-    variable: RelVar,
-    object: u8,
-) -> Result<Boxed<Formula>, NoMemory>
-    ensures meaning { IfOk result (λ r. (m : Reading) → holds r m ≡ same_sets m (m.refs variable 0) (is_object object)) }
-    ensures sorted { IfOk result (λ r. (p : Posed) (kinds : Kinds) → IsTrue (nat_lt object p.scope.objects) → IsTrue (is_variable p kinds AsSet variable) → IsTrue (is_sorted p kinds r)) }
-{
-    let inner = RelExpr::variable(alloc, variable)?;
-    let outer = RelExpr::object(alloc, object)?;
-    let within = Formula::subset(alloc, inner, outer)?;
-    let inner = RelExpr::object(alloc, object)?;
-    let outer = RelExpr::variable(alloc, variable)?;
-    let around = Formula::subset(alloc, inner, outer)?;
-    let same = Formula::both(alloc, within, around)?;
-    Ok(same)
-}
-
-/// A variable is this object, where that is the next.
-fn is_placed(
-    alloc: Global,
-    variable: RelVar,
-    live: RelVar,
-    object: u8,
-) -> Result<Boxed<Formula>, NoMemory>
-    ensures meaning { IfOk result (λ r. (m : Reading) → holds r m ≡ is_placed_lem m variable live object) }
-    ensures sorted { IfOk result (λ r. (p : Posed) (kinds : Kinds) → IsTrue (nat_lt object p.scope.objects) → IsTrue (is_variable p kinds AsSet variable) → IsTrue (is_spread p kinds AsFlag live) → IsTrue (is_sorted p kinds r)) }
-{
-    let next = is_next(alloc, live, object)?;
-    let is = is_the_object(alloc, variable, object)?;
-    let placed = Formula::implies(alloc, next, is)?;
-    Ok(placed)
-}
-
-/// A variable is the next of so many objects, where there is one.
-fn all_placed(
-    alloc: Global,
-    variable: RelVar,
-    live: RelVar,
-    objects: u8,
-) -> Result<Boxed<Formula>, NoMemory>
-    ensures meaning { IfOk result (λ r. (m : Reading) → holds r m ≡ list_all (is_placed_lem m variable live) (numbers_below objects)) }
-    ensures sorted { IfOk result (λ r. (p : Posed) (kinds : Kinds) → objects ≤ p.scope.objects → IsTrue (is_variable p kinds AsSet variable) → IsTrue (is_spread p kinds AsFlag live) → IsTrue (is_sorted p kinds r)) }
-{
-    let mut parts = Items::from_vec(Vec::with_capacity(alloc, usize::from(objects))?);
-    for object in 0..objects {
-        let placed = is_placed(alloc, variable, live, object)?;
-        parts.push(placed.into_inner())?;
-    }
-    let all = Formula::all(alloc, parts)?;
-    Ok(all)
-}
-
-/// There is room for one more object: the last of so many is not there.
-fn has_room(alloc: Global, live: RelVar, objects: u8) -> Result<Boxed<Formula>, NoMemory>
-    ensures meaning { IfOk result (λ r. (m : Reading) → holds r m ≡ not (there m live (objects - 1))) }
-    ensures sorted { IfOk result (λ r. (p : Posed) (kinds : Kinds) → IsTrue (nat_lt (objects - 1) p.scope.objects) → IsTrue (is_spread p kinds AsFlag live) → IsTrue (is_sorted p kinds r)) }
-{
-    let free = is_not_there(alloc, live, objects.saturating_sub(1))?;
-    Ok(free)
-}
 
 /// A relation for numbers has 0 at place 0.
 fn is_zero(alloc: Global, relation: RelVar) -> Result<Boxed<Formula>, NoMemory>

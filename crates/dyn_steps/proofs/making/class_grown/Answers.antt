@@ -6,7 +6,8 @@ use Rattle.dyn_steps.proofs.Combining.{both_of}
 use Rattle.dyn_steps.proofs.making.class_grown.Goals as goal
 
 pub returns-clause-meaning : goal.returns-clause-meaning
-returns-clause-meaning c = λ m. c.in_ok-both.ensures.meaning m ∙ both_of _ _ _ _ (c.in_ok-of.ensures.meaning m ∙ ap (λ r. are_of m (is_object 0) c.args.class r) c.in_ok-given.ensures) (c.in_ok-grown.ensures.meaning m)
+returns-clause-meaning c = λ m. c.in_ok-both.ensures.meaning m
+    ∙ both_of _ _ _ _ (c.in_ok-of.ensures.meaning m ∙ ap (λ r. are_of m (is_object 0) c.args.class r) c.in_ok-given.ensures) (c.in_ok-grown.ensures.meaning m)
 
 pub returns-clause-sorted : goal.returns-clause-sorted
 returns-clause-sorted c = λ p kinds below variable.

@@ -9,7 +9,8 @@ use Rattle.dyn_steps.proofs.making.fields_grown.Goals as goal
 pub loop-field-preserved : goal.loop-field-preserved
 loop-field-preserved c = (
     λ m.
-        list_gathered (λ a. holds a m) (field_grown m c.args.declared.now c.args.from.now.at c.args.from.now.next c.args.variable) _ _ _ c.args.fields.now c.loop-field.field-index c.in_ok-push.ensures.ok c.loop-field-test.true (c.loop-field.invariant.0 m)
+        list_gathered (λ a. holds a m) (field_grown m c.args.declared.now c.args.from.now.at c.args.from.now.next c.args.variable) _ _ _ c.args.fields.now c.loop-field.field-index
+            c.in_ok-push.ensures.ok c.loop-field-test.true (c.loop-field.invariant.0 m)
         (ap (λ a. holds a m) c.into_inner.ensures ∙ c.in_ok-grown.ensures.meaning m),
     λ p kinds same known below variable.
         all_gathered (is_sorted p kinds) _ _ _ c.in_ok-push.ensures.ok (c.loop-field.invariant.1 p kinds same known below variable)

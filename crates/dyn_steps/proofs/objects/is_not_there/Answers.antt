@@ -1,6 +1,6 @@
 use Rattle.std.proofs.Common.{ap, ◌∙◌}
 use Rattle.std.specs.Prelude.{not}
-use Rattle.dyn_steps.proofs.making.is_not_there.Goals as goal
+use Rattle.dyn_steps.proofs.objects.is_not_there.Goals as goal
 
 pub returns-clause-meaning : goal.returns-clause-meaning
 returns-clause-meaning c = λ m. c.in_ok-opposite.ensures.meaning m ∙ ap not (c.in_ok-flag.ensures.meaning m)

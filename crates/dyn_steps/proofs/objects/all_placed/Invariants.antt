@@ -5,7 +5,7 @@ use Rattle.rel_core.specs.Reading.{Reading, numbers_below}
 use Rattle.rel_core.specs.Meaning.{holds}
 use Rattle.rel_core.specs.Uses.{Kinds, AsSet, AsFlag, is_variable, is_spread, is_sorted}
 use Rattle.dyn_steps.specs.Meanings.{is_placed}
-use Rattle.dyn_steps.proofs.making.all_placed.Given as goal
+use Rattle.dyn_steps.proofs.objects.all_placed.Given as goal
 
 abbrev pub invariant-loop-object : goal.invariant-loop-object
 invariant-loop-object l =

@@ -4,7 +4,7 @@ use Rattle.rel_core.specs.Meaning.{holds}
 use Rattle.rel_core.specs.Uses.{is_sorted}
 use Rattle.dyn_steps.specs.Meanings.{is_placed}
 use Rattle.dyn_steps.proofs.Growing.{numbers_gathered, all_gathered}
-use Rattle.dyn_steps.proofs.making.all_placed.Goals as goal
+use Rattle.dyn_steps.proofs.objects.all_placed.Goals as goal
 
 pub loop-object-preserved : goal.loop-object-preserved
 loop-object-preserved c = (
