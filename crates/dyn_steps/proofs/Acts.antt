@@ -1,5 +1,5 @@
 -- The parts of actions that set a variable.
-use Rattle.std.proofs.Common.{◌≡◌, ℕ, ◌+◌, Bool, true, false, not, ◌&&◌, ◌||◌, List, Option, Some, None, refl, sym, ◌∙◌, ap, subst, get_or}
+use Rattle.std.proofs.Common.{◌≡◌, ℕ, Bool, true, false, not, ◌&&◌, List, Some, refl, sym, ◌∙◌, ap, subst}
 use Rattle.std.specs.Prelude.{◌==◌, ℤ, ◌+ℤ◌, ◌-ℤ◌, ◌*ℤ◌, int_lt, slice_get, option_map, unwrap_or}
 use Rattle.std.specs.Option.{option_map_or}
 use Rattle.std.proofs.lemmas.Bool.{and_parts, and_from, or_left, or_right, eq-eqb, ne_eqb, false≢true}
@@ -11,7 +11,7 @@ use Rattle.taco_unit.specs.Well.{IsWell}
 use Rattle.heap_core.specs.declared.value.Value.{Value}
 use Rattle.heap_core.specs.declared.value.Value.TheVariants.{Null, Obj, Num, Flag}
 use Rattle.heap_core.specs.declared.value.Seen.{Seen}
-use Rattle.heap_core.specs.declared.value.Seen.TheVariants.{Is, Bad, Out}
+use Rattle.heap_core.specs.declared.value.Seen.TheVariants.{Is}
 use Rattle.heap_core.specs.Posed.{Posed, InRange}
 use Rattle.heap_core.specs.Outcomes.{number, flag, on_numbers, same, same_flag}
 use Rattle.heap_core.specs.Heap.{field}
@@ -21,24 +21,23 @@ use Rattle.rel_core.specs.declared.relation.RelVar.{RelVar}
 use Rattle.rel_core.specs.declared.relation.What.TheVariants as what
 use Rattle.rel_core.specs.Reading.{Reading}
 use Rattle.rel_core.specs.Meaning.{holds, fitting}
-use Rattle.rel_core.specs.Uses.{Kinds, Use, AsSet, AsNumber, AsFlag, AsClass, same_use, use_of_kind, has_use, is_variable, is_spread, is_sorted, IsOf}
+use Rattle.rel_core.specs.Uses.{Kinds, Use, AsSet, AsNumber, AsFlag, AsClass, same_use, use_of_kind, is_variable, is_spread, is_sorted, IsOf}
 use Rattle.rel_core.specs.Shown.{ShowsValue}
-use Rattle.dyn_core.specs.declared.prog.Act.{Act}
 use Rattle.dyn_core.specs.declared.prog.Act.TheVariants.{Copy, Const, Sum, Diff, Product, Same, Below, Read}
 use Rattle.dyn_core.specs.declared.state.DynState.{DynState}
 use Rattle.dyn_core.specs.States.{var_at}
 use Rattle.dyn_core.specs.Actions.{constant}
-use Rattle.dyn_core.specs.Kinds.{is_var, are_alike, are_numbers, takes_constant, is_kinded_act, HasKinds}
-use Rattle.dyn_core.proofs.Fitting.{there_passes, var_is, alike_is, first_is, IsFieldOf, field_is}
+use Rattle.dyn_core.specs.Kinds.{is_var, are_alike, are_numbers, takes_constant, HasKinds}
+use Rattle.dyn_core.proofs.Fitting.{there_passes, var_is, alike_is, field_is}
 use Rattle.dyn_core.proofs.Kept.{act_keeps_kinds}
 use Rattle.dyn_steps.specs.declared.part.Front.{Front}
-use Rattle.dyn_steps.specs.Points.{relation_at, slot, IsPoint}
+use Rattle.dyn_steps.specs.Points.{relation_at, slot}
 use Rattle.dyn_steps.specs.Looked.{Vars, without, with_one, kind_at, looked_at}
 use Rattle.dyn_steps.specs.Meanings.{same_variables, is_number, is_constant, is_through, is_cell}
-use Rattle.dyn_steps.specs.Paths.{Shows, Acts, IsStep, var_set}
+use Rattle.dyn_steps.specs.Paths.{Shows, IsStep, var_set}
 use Rattle.dyn_steps.proofs.Moving.{vars_shown}
 use Rattle.dyn_steps.proofs.SetVars.{Sets, set_path}
-use Rattle.dyn_steps.proofs.Saying.{Says, says_never, says_number, says_flag, says_null, says_copy, sameness, says_cell, says_through, says_null_way}
+use Rattle.dyn_steps.proofs.Saying.{Says, says_number, says_flag, says_null, says_copy, sameness, says_cell, says_through, says_null_way}
 
 -- ## sets of variables
 
@@ -99,7 +98,7 @@ module _ (p : Posed) (kinds : List Kind) (from : Front) (f : Formula) (well : Is
       (sets_from p kinds (looked_at (Copy x y) after) x k.0 (λ s. Is (var_at s.vars y)) from f (λ m. same_variables m k.0 (slot x from.next) (old y)) (sorted k.0 k.1 k.2)
       (λ m. meaning m ∙ ap (λ j. same_variables m j (slot x from.next) (old y)) (kind_known kinds x k.0 k.1))
       (λ m s of has shown. says_copy p (slice_get kinds) m of k.0 (slot x from.next) (old y) (var_at s.vars y)
-          (vars_shown p kinds (looked_at (Copy x y) after) m from.at s shown y k.0 (one_in y (without x after)) k.2)))
+      (vars_shown p kinds (looked_at (Copy x y) after) m from.at s shown y k.0 (one_in y (without x after)) k.2)))
 
   pub const_step : (x : ℕ) (v : Value) → ((k : Kind) → slice_get kinds x ≡ Some k → takes_constant v k ≡ true → Sorted) → ((m : Reading) → holds f m ≡ is_constant m (slot x from.next) v)
       → IsStep p kinds (Const x v) from (var_set from x f)
@@ -156,10 +155,10 @@ module _ (p : Posed) (kinds : List Kind) (from : Front) (f : Formula) (well : Is
   operator_sets x y z k make truth after fits sorted meaning says =
       let kinds_are = numbers_are x k y z fits in
       sets_from p kinds (two x y z after) x k (λ s. on_numbers make (var_at s.vars y) (var_at s.vars z)) from f truth sorted meaning (λ m s of has shown.
-          let first : var_at s.vars y ≡ Num (m.number (old y) 0) = vars_shown p kinds (two x y z after) m from.at s shown y kind.Int (first_in x y z after) kinds_are.1 in
-          let second : var_at s.vars z ≡ Num (m.number (old z) 0) = vars_shown p kinds (two x y z after) m from.at s shown z kind.Int (second_in x y z after) kinds_are.2 in
-          subst (λ e. Says m k (slot x from.next) e (truth m)) (sym (ap (λ v. on_numbers make v (var_at s.vars z)) first ∙ ap (λ v. on_numbers make (Num (m.number (old y) 0)) v) second))
-              (says m of.ints))
+      let first : var_at s.vars y ≡ Num (m.number (old y) 0) = vars_shown p kinds (two x y z after) m from.at s shown y kind.Int (first_in x y z after) kinds_are.1 in
+      let second : var_at s.vars z ≡ Num (m.number (old z) 0) = vars_shown p kinds (two x y z after) m from.at s shown z kind.Int (second_in x y z after) kinds_are.2 in
+      subst (λ e. Says m k (slot x from.next) e (truth m)) (sym (ap (λ v. on_numbers make v (var_at s.vars z)) first ∙ ap (λ v. on_numbers make (Num (m.number (old y) 0)) v) second))
+      (says m of.ints))
 
   says_made : (m : Reading) (x : ℕ) (z : ℤ) → m.ints ≡ p.scope.ints → Says m kind.Int (slot x from.next) (number p.scope.ints z) (is_number m (slot x from.next) (fitting m.ints z))
   says_made m x z same = subst (λ w. Says m kind.Int (slot x from.next) (number w z) (is_number m (slot x from.next) (fitting m.ints z))) same (says_number m (slot x from.next) z)
@@ -178,7 +177,7 @@ module _ (p : Posed) (kinds : List Kind) (from : Front) (f : Formula) (well : Is
       (rest_in x y z after)
       (λ s t has run. (act_keeps_kinds p kinds well (Sum x y z) s t fits has run).kinded)
       (operator_sets x y z kind.Int (λ a b. number p.scope.ints (a +ℤ b)) (made (λ a b. a +ℤ b) x y z) after fits (sorted are.0 are.1 are.2) meaning
-          (λ m same. says_made m x (m.number (old y) 0 +ℤ m.number (old z) 0) same))
+      (λ m same. says_made m x (m.number (old y) 0 +ℤ m.number (old z) 0) same))
 
   pub difference_step : (x y z : ℕ) → SortedNumbers x kind.Int y z → ((m : Reading) → holds f m ≡ made (λ a b. a -ℤ b) x y z m) → IsStep p kinds (Diff x y z) from (var_set from x f)
   difference_step x y z sorted meaning fits point after =
@@ -187,7 +186,7 @@ module _ (p : Posed) (kinds : List Kind) (from : Front) (f : Formula) (well : Is
       (rest_in x y z after)
       (λ s t has run. (act_keeps_kinds p kinds well (Diff x y z) s t fits has run).kinded)
       (operator_sets x y z kind.Int (λ a b. number p.scope.ints (a -ℤ b)) (made (λ a b. a -ℤ b) x y z) after fits (sorted are.0 are.1 are.2) meaning
-          (λ m same. says_made m x (m.number (old y) 0 -ℤ m.number (old z) 0) same))
+      (λ m same. says_made m x (m.number (old y) 0 -ℤ m.number (old z) 0) same))
 
   pub product_step : (x y z : ℕ) → SortedNumbers x kind.Int y z → ((m : Reading) → holds f m ≡ made (λ a b. a *ℤ b) x y z m) → IsStep p kinds (Product x y z) from (var_set from x f)
   product_step x y z sorted meaning fits point after =
@@ -196,7 +195,7 @@ module _ (p : Posed) (kinds : List Kind) (from : Front) (f : Formula) (well : Is
       (rest_in x y z after)
       (λ s t has run. (act_keeps_kinds p kinds well (Product x y z) s t fits has run).kinded)
       (operator_sets x y z kind.Int (λ a b. number p.scope.ints (a *ℤ b)) (made (λ a b. a *ℤ b) x y z) after fits (sorted are.0 are.1 are.2) meaning
-          (λ m same. says_made m x (m.number (old y) 0 *ℤ m.number (old z) 0) same))
+      (λ m same. says_made m x (m.number (old y) 0 *ℤ m.number (old z) 0) same))
 
   abbrev ordered : ℕ → ℕ → ℕ → Reading → Bool
   ordered x y z m = same_flag (m.flag (slot x from.next) 0) (int_lt (m.number (old y) 0) (m.number (old z) 0))
@@ -208,7 +207,7 @@ module _ (p : Posed) (kinds : List Kind) (from : Front) (f : Formula) (well : Is
       (rest_in x y z after)
       (λ s t has run. (act_keeps_kinds p kinds well (Below x y z) s t fits has run).kinded)
       (operator_sets x y z kind.Flag (λ a b. flag (int_lt a b)) (ordered x y z) after fits (sorted are.0 are.1 are.2) meaning
-          (λ m same. says_flag m (slot x from.next) (int_lt (m.number (old y) 0) (m.number (old z) 0))))
+      (λ m same. says_flag m (slot x from.next) (int_lt (m.number (old y) 0) (m.number (old z) 0))))
 
   -- ## whether two values are the same
 
@@ -225,14 +224,14 @@ module _ (p : Posed) (kinds : List Kind) (from : Front) (f : Formula) (well : Is
       (rest_in x y z after)
       (λ s t has run. (act_keeps_kinds p kinds well (Same x y z) s t fits has run).kinded)
       (sets_from p kinds (looked_at (Same x y z) after) x kind.Flag (λ s. same (var_at s.vars y) (var_at s.vars z)) from f
-          (λ m. same_flag (m.flag (slot x from.next) 0) (same_variables m k.0 (old y) (old z))) (sorted k.0 target k.1 k.2)
+      (λ m. same_flag (m.flag (slot x from.next) 0) (same_variables m k.0 (old y) (old z))) (sorted k.0 target k.1 k.2)
       (λ m. meaning m ∙ ap (λ j. same_flag (m.flag (slot x from.next) 0) (same_variables m j (old y) (old z))) (kind_known kinds y k.0 k.1))
       (λ m s of has shown.
-          let first = vars_shown p kinds (looked_at (Same x y z) after) m from.at s shown y k.0 (first_in x y z after) k.1 in
-          let second = vars_shown p kinds (looked_at (Same x y z) after) m from.at s shown z k.0 (second_in x y z after) k.2 in
-          subst (λ e. Says m kind.Flag (slot x from.next) e (same_flag (m.flag (slot x from.next) 0) (same_variables m k.0 (old y) (old z))))
-          (sym (sameness p (slice_get kinds) m of k.0 (old y) (old z) (var_at s.vars y) (var_at s.vars z) first second))
-          (says_flag m (slot x from.next) (same_variables m k.0 (old y) (old z)))))
+      let first = vars_shown p kinds (looked_at (Same x y z) after) m from.at s shown y k.0 (first_in x y z after) k.1 in
+      let second = vars_shown p kinds (looked_at (Same x y z) after) m from.at s shown z k.0 (second_in x y z after) k.2 in
+      subst (λ e. Says m kind.Flag (slot x from.next) e (same_flag (m.flag (slot x from.next) 0) (same_variables m k.0 (old y) (old z))))
+      (sym (sameness p (slice_get kinds) m of k.0 (old y) (old z) (var_at s.vars y) (var_at s.vars z) first second))
+      (says_flag m (slot x from.next) (same_variables m k.0 (old y) (old z)))))
 
   -- ## a field
 

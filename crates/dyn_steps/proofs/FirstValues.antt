@@ -1,66 +1,24 @@
 -- Relations at single objects, and the values with which fields begin.
-use Rattle.std.proofs.Common.{◌≡◌, ◌⊎◌, ℕ, zero, suc, ◌+◌, ◌-◌, ◌<◌, ◌≤◌, Bool, true, false, not, ◌&&◌, ◌||◌, List, []}
-use Rattle.std.proofs.Common.{◌∷◌, ◌++◌, length, map, Option, Some, None, inl, inr, refl, sym, ◌∙◌, ap, subst, arith, get_or, pow_pos}
-use Rattle.std.specs.Prelude.{◌==◌, ◌^◌, nat_lt, ℤ, pos, if◌then◌else◌, slice_get, is_some, option_map}
+use Rattle.std.proofs.Common.{◌≡◌, ℕ, ◌-◌, ◌<◌, Bool, true, false, not, ◌||◌}
+use Rattle.std.proofs.Common.{Some, None, inl, inr, refl, sym, ◌∙◌, ap, arith, pow_pos}
+use Rattle.std.specs.Prelude.{◌==◌, ◌^◌, nat_lt, ℤ, pos, if◌then◌else◌}
 use Rattle.std.specs.Ordering.{int_eq}
-use Rattle.std.specs.List.{list_all, range_with_len}
 use Rattle.std.specs.Option.{option_map_or}
-use Rattle.std.proofs.lemmas.Bool.{cases_eq, eq-eqb, ne_eqb, eqb-true, and_parts, and_from, or_left, or_right, false≢true, false_from_ne_true, lt-ltb, ltb-true}
-use Rattle.std.proofs.lemmas.Option.{slice_get_within}
-use Rattle.std.proofs.lemmas.List.{length-set}
+use Rattle.std.proofs.lemmas.Bool.{cases_eq, eq-eqb, ne_eqb, or_left, or_right, false≢true}
 use Rattle.taco_unit.specs.declared.kind.Kind.{Kind}
 use Rattle.taco_unit.specs.declared.kind.Kind.TheVariants as kind
-use Rattle.taco_unit.specs.declared.unit.ClassDef.{ClassDef}
-use Rattle.taco_unit.specs.declared.unit.FieldDef.{FieldDef}
-use Rattle.taco_unit.specs.Kinds.{is_class_kind}
-use Rattle.taco_unit.specs.Well.{IsWell}
 use Rattle.heap_core.specs.declared.value.Value.{Value}
 use Rattle.heap_core.specs.declared.value.Value.TheVariants.{Null, Obj, Num, Flag}
-use Rattle.heap_core.specs.declared.value.Object.{Object}
-use Rattle.heap_core.specs.declared.value.Seen.{Seen}
-use Rattle.heap_core.specs.declared.value.Seen.TheVariants.{Is, Bad, Out}
-use Rattle.heap_core.specs.Posed.{Posed, InRange}
-use Rattle.heap_core.specs.Outcomes.{in_bits, gives, is_value, is_object, is_null, zero_of}
-use Rattle.heap_core.specs.Heap.{Heap, is_of, class_at, cell_of, field, declares, first_value, blank, has_room, grown}
-use Rattle.heap_core.specs.Start.{has_kind}
-use Rattle.heap_core.proofs.FieldLaws.{none_some, some_same}
-use Rattle.heap_core.proofs.Lists.{all_from}
-use Rattle.heap_core.proofs.GivenFields.{IsGrown, grown_is, grown_length, grown_class, grown_field}
-use Rattle.rel_core.specs.declared.formula.Formula.{Formula}
+use Rattle.heap_core.specs.Posed.{Posed}
+use Rattle.heap_core.specs.Outcomes.{in_bits, is_value, is_object, is_null, zero_of}
 use Rattle.rel_core.specs.declared.relation.RelVar.{RelVar}
-use Rattle.rel_core.specs.declared.relation.What.{What}
-use Rattle.rel_core.specs.declared.relation.What.TheVariants as what
-use Rattle.rel_core.specs.Reading.{Reading, numbers_below, is_reference}
-use Rattle.rel_core.specs.Meaning.{has_object, joined, only_object, fitting, with_both, are_of, is_changed, holds}
-use Rattle.rel_core.specs.Uses.{Kinds, AsSet, is_slot, is_variable, is_sorted, IsOf}
-use Rattle.rel_core.specs.Shown.{ShowsValue, ShowsCell, ShowsHeap, live_relation, class_relation, field_relation}
-use Rattle.dyn_core.specs.declared.prog.Act.TheVariants.{Make}
-use Rattle.dyn_core.specs.declared.state.DynState.{DynState}
-use Rattle.dyn_core.specs.States.{var_at, with_var}
-use Rattle.dyn_core.specs.Actions.{acted}
-use Rattle.dyn_core.specs.Kinds.{HasKinds}
-use Rattle.dyn_steps.specs.declared.point.Point.{Point}
-use Rattle.dyn_steps.specs.declared.part.Front.{Front}
-use Rattle.dyn_steps.specs.declared.part.Part.{Part}
-use Rattle.dyn_steps.specs.Points.{index_of, relation_at, slot, indices_of, fields_moved, made_point, var_moved, IsPoint}
-use Rattle.dyn_steps.specs.Agreeing.{IsAlike, Agree}
-use Rattle.dyn_steps.specs.Looked.{Vars, without, looked_at}
-use Rattle.dyn_steps.specs.Meanings.{there, is_next, is_placed, is_first, field_kind, is_grown, live_grown as live_part, class_grown as class_part, field_grown, is_made, same_sets}
-use Rattle.dyn_steps.specs.Paths.{Shows, Acts, GoesOn, IsPath, IsStep, made_set}
-use Rattle.dyn_core.proofs.Vars.{var_set}
-use Rattle.dyn_core.proofs.Fitting.{var_is}
-use Rattle.dyn_core.proofs.Kept.{act_keeps_kinds}
-use Rattle.dyn_steps.proofs.Moving.{alike_on, agree_less, agree_on, agree_at, value_moves, shows_both, vars_shown, shows_move}
-use Rattle.dyn_steps.proofs.Readings.{renewed, moved, spliced, shifted, renewed_of, moved_of, spliced_of, shifted_of, renewed_new, renewed_old, moved_alike}
-use Rattle.dyn_steps.proofs.SetVars.{state_reading, state_of, state_value, state_cell, state_live, state_class, var_indices, var_shown_after}
-use Rattle.dyn_steps.proofs.Acts.{others_in, variable_used}
-use Rattle.dyn_steps.proofs.Tested.{path_alike}
+use Rattle.rel_core.specs.Reading.{Reading, is_reference}
+use Rattle.rel_core.specs.Meaning.{has_object, joined, fitting, with_both, are_of}
+use Rattle.rel_core.specs.Uses.{Kinds, IsOf}
+use Rattle.rel_core.specs.Shown.{ShowsValue}
+use Rattle.dyn_steps.specs.Meanings.{there, is_first}
 use Rattle.dyn_steps.proofs.Numbers.{one_object, one_joined, all_below, all_numbers, sets_alike, sets_same}
-use Rattle.dyn_steps.proofs.Saying.{Says, says_set, int_same, same_int, refs_within}
-use Rattle.dyn_steps.proofs.Places.{IsAlikeAt, place_back, place_on, place_at, place_moves, changed_here, changed_apart, changed_from}
-use Rattle.dyn_steps.proofs.Puts.{is_of_class}
-use Rattle.dyn_steps.proofs.Places.{spliced_first, spliced_second}
-use Rattle.dyn_steps.proofs.MovedFields.{is_listed, listed_at, all_listed, listed_declared, listed_own, listed_there, fields_length, fields_vars, fields_kept, fields_new}
+use Rattle.dyn_steps.proofs.Saying.{int_same, same_int, refs_within}
 
 -- ## single objects
 
@@ -83,7 +41,7 @@ null_value (Flag b) = refl
 pub class_is : (m : Reading) (o c : ℕ) (r : RelVar) → o < m.objects → are_of m (is_object o) c r ≡ int_eq (m.number r o) (pos c)
 class_is m o c r low = both_ways_of (are_of m (is_object o) c r) (int_eq (m.number r o) (pos c))
     (λ is. sym (ap (λ b. not b || int_eq (m.number r o) (pos c)) (eq-eqb o o refl))
-        ∙ all_below (λ q. not (has_object (is_object o) q) || int_eq (m.number r q) (pos c)) 0 m.objects o is (omega arith) (omega arith))
+    ∙ all_below (λ q. not (has_object (is_object o) q) || int_eq (m.number r q) (pos c)) 0 m.objects o is (omega arith) (omega arith))
     (λ is. all_numbers (λ q. not (has_object (is_object o) q) || int_eq (m.number r q) (pos c)) 0 m.objects (λ q below. elim (cases_eq o q) [
       | inl same ↦ or_right (not (o == q)) (int_eq (m.number r q) (pos c)) (ap (λ i. int_eq (m.number r i) (pos c)) (sym same) ∙ is)
       | inr apart ↦ or_left (not (o == q)) (int_eq (m.number r q) (pos c)) (ap not (ne_eqb o q apart))

@@ -1,5 +1,5 @@
 -- The sequence of two parts.
-use Rattle.std.proofs.Common.{◌≡◌, ℕ, ◌≤◌, true, ◌&&◌, List, sym, ◌∙◌, ap, subst, inl, inr, arith}
+use Rattle.std.proofs.Common.{◌≡◌, ◌≤◌, true, ◌&&◌, List, sym, ◌∙◌, subst, inl, inr, arith}
 use Rattle.std.specs.Prelude.{slice_get}
 use Rattle.std.proofs.lemmas.Bool.{and_parts, and_from}
 use Rattle.taco_unit.specs.declared.kind.Kind.{Kind}
@@ -11,7 +11,6 @@ use Rattle.dyn_core.specs.declared.state.DynState.{DynState}
 use Rattle.dyn_core.specs.Kinds.{HasKinds}
 use Rattle.dyn_steps.specs.declared.part.Front.{Front}
 use Rattle.dyn_steps.specs.declared.part.Part.{Part}
-use Rattle.dyn_steps.specs.Points.{index_of, IsPoint}
 use Rattle.dyn_steps.specs.Looked.{Vars}
 use Rattle.dyn_steps.specs.Paths.{Shows, Relation, GoesOn, IsPath}
 use Rattle.dyn_steps.proofs.Moving.{agree_less, agree_on}
@@ -59,9 +58,9 @@ module _ (p : Posed) (kinds : List Kind) (before between after : Vars) (R S : Re
     point = second.point;
     indices = λ w. elim (second.indices w) [
       | inl same ↦ elim (first.indices w) [
-          | inl old ↦ inl (same ∙ old)
-          | inr new ↦ inr (subst (λ i. from.next ≤ i) (sym same) new)
-        ]
+        | inl old ↦ inl (same ∙ old)
+        | inr new ↦ inr (subst (λ i. from.next ≤ i) (sym same) new)
+      ]
       | inr new ↦ inr (let one = first.up in omega (arith, one, new))
     ];
     sorted = sorted first.sorted second.sorted;

@@ -1,14 +1,14 @@
 -- The join of two branches: the formula of either, with each relation at one index behind both.
-use Rattle.std.proofs.Common.{◌≡◌, ◌⊎◌, ℕ, ◌+◌, ◌<◌, ◌≤◌, Bool, true, false, ◌&&◌, ◌||◌, List, refl, sym, ◌∙◌, ap, subst, inl, inr, arith}
+use Rattle.std.proofs.Common.{◌≡◌, ◌⊎◌, ℕ, ◌+◌, ◌≤◌, Bool, true, false, ◌&&◌, ◌||◌, List, refl, sym, ◌∙◌, subst, inl, inr, arith}
 use Rattle.std.specs.Prelude.{slice_get}
-use Rattle.std.proofs.lemmas.Bool.{and_parts, and_from, or_left, or_right, false≢true}
+use Rattle.std.proofs.lemmas.Bool.{and_parts, and_from, or_left, or_right}
 use Rattle.taco_unit.specs.declared.kind.Kind.{Kind}
 use Rattle.heap_core.specs.Posed.{Posed}
 use Rattle.rel_core.specs.declared.formula.Formula.{Formula}
 use Rattle.rel_core.specs.declared.relation.What.{What}
 use Rattle.rel_core.specs.Reading.{Reading}
 use Rattle.rel_core.specs.Meaning.{holds}
-use Rattle.rel_core.specs.Uses.{IsOf, is_sorted}
+use Rattle.rel_core.specs.Uses.{IsOf}
 use Rattle.dyn_core.specs.declared.state.DynState.{DynState}
 use Rattle.dyn_core.specs.Kinds.{HasKinds}
 use Rattle.dyn_steps.specs.declared.point.Point.{Point}
@@ -19,7 +19,7 @@ use Rattle.dyn_steps.specs.Agreeing.{IsAlike, Agree}
 use Rattle.dyn_steps.specs.Looked.{Vars}
 use Rattle.dyn_steps.specs.Paths.{Shows, Relation, GoesOn, IsPath}
 use Rattle.dyn_steps.specs.Joining.{Joins, Equates, Either, AreJoined}
-use Rattle.dyn_steps.proofs.Moving.{alike_self, alike_back, alike_on, agree_less, agree_on, agree_at, point_more, shows_move}
+use Rattle.dyn_steps.proofs.Moving.{alike_back, alike_on, agree_less, agree_on, agree_at, point_more, shows_move}
 use Rattle.dyn_steps.proofs.Readings.{renewed, moved, renewed_of, moved_of, renewed_new, renewed_old, moved_alike}
 
 module _ (p : Posed) (kinds : List Kind) (after : Vars) where
@@ -59,10 +59,10 @@ module _ (p : Posed) (kinds : List Kind) (after : Vars) where
     holds = λ u of agree.
         let near : Agree (n + 1) reading u = subst (λ k. Agree k reading u) next agree in
         let below : Agree part.end.next g.reading u = agree_on part.end.next g.reading reading u (agree_less part.end.next n g.reading reading few old)
-            (agree_less part.end.next (n + 1) reading u (omega (arith, few)) near) in
+        (agree_less part.end.next (n + 1) reading u (omega (arith, few)) near) in
         either u (g.holds u of below) (equates.holds u of (λ w.
-            alike_on (alike_back (agree_at p kinds part.end.next part.end.at g.reading u point below w))
-            (alike_on (alike w) (agree_at p kinds (n + 1) joint.end.at reading u whole near w))));
+        alike_on (alike_back (agree_at p kinds part.end.next part.end.at g.reading u point below w))
+        (alike_on (alike w) (agree_at p kinds (n + 1) joint.end.at reading u whole near w))));
   }
     where
       reading : Reading
@@ -108,12 +108,12 @@ module _ (p : Posed) (kinds : List Kind) (before after : Vars) (R S : Relation) 
   joined_full m s t of has shown (inl run) =
       branch_goes_on p kinds after m from.next b.end.next a t joint are.first_equal first.up second.up first.point are.first_joins joint_point are.next are.first_equates
       (λ u holds_a equal. are.meaning u ∙ or_left (holds a.formula u && holds are.first_equal u) (holds b.formula u && holds are.second_equal u)
-          (and_from (holds a.formula u) (holds are.first_equal u) holds_a equal))
+      (and_from (holds a.formula u) (holds are.first_equal u) holds_a equal))
       (first.full m s t of has shown run)
   joined_full m s t of has shown (inr run) =
       less (branch_goes_on p kinds after m a.end.next b.end.next b t joint are.second_equal second.up (omega arith) second.point are.second_joins joint_point are.next are.second_equates
       (λ u holds_b equal. are.meaning u ∙ or_right (holds a.formula u && holds are.first_equal u) (holds b.formula u && holds are.second_equal u)
-          (and_from (holds b.formula u) (holds are.second_equal u) holds_b equal))
+      (and_from (holds b.formula u) (holds are.second_equal u) holds_b equal))
       (second.full m s t of has shown run))
     where
       less : GoesOn p kinds after m a.end.next joint t → GoesOn p kinds after m from.next joint t
@@ -125,9 +125,9 @@ module _ (p : Posed) (kinds : List Kind) (before after : Vars) (R S : Relation) 
     point = subst (λ n. IsPoint p kinds n joint.end.at) (sym are.next) joint_point;
     indices = λ w. elim (are.first_joins w) [
       | inl same ↦ elim (first.indices w) [
-          | inl old ↦ inl (same ∙ old)
-          | inr new ↦ inr (subst (λ i. from.next ≤ i) (sym same) new)
-        ]
+        | inl old ↦ inl (same ∙ old)
+        | inr new ↦ inr (subst (λ i. from.next ≤ i) (sym same) new)
+      ]
       | inr new ↦ inr (subst (λ i. from.next ≤ i) (sym new) (let one = first.up in let two = second.up in omega (arith, one, two)))
     ];
     sorted = are.sorted first.sorted second.sorted;

@@ -1,67 +1,54 @@
 -- The part of a new object.
-use Rattle.std.proofs.Common.{◌≡◌, ◌⊎◌, ℕ, zero, suc, ◌+◌, ◌-◌, ◌<◌, ◌≤◌, Bool, true, false, not, ◌&&◌, ◌||◌, List, []}
-use Rattle.std.proofs.Common.{◌∷◌, ◌++◌, length, map, Option, Some, None, inl, inr, refl, sym, ◌∙◌, ap, subst, arith, get_or, pow_pos}
-use Rattle.std.specs.Prelude.{◌==◌, ◌^◌, nat_lt, ℤ, pos, if◌then◌else◌, slice_get, is_some, option_map}
-use Rattle.std.specs.Ordering.{int_eq}
-use Rattle.std.specs.List.{list_all, range_with_len}
-use Rattle.std.specs.Option.{option_map_or}
-use Rattle.std.proofs.lemmas.Bool.{cases_eq, eq-eqb, ne_eqb, eqb-true, and_parts, and_from, or_left, or_right, false≢true, false_from_ne_true, lt-ltb, ltb-true}
+use Rattle.std.proofs.Common.{◌≡◌, ◌⊎◌, ℕ, ◌+◌, ◌-◌, ◌<◌, Bool, true, false, not, ◌&&◌, ◌||◌, List, []}
+use Rattle.std.proofs.Common.{◌∷◌, ◌++◌, length, map, Option, Some, None, inl, inr, refl, sym, ◌∙◌, ap, subst, arith, get_or}
+use Rattle.std.specs.Prelude.{◌==◌, nat_lt, if◌then◌else◌, slice_get, is_some, option_map}
+use Rattle.std.specs.List.{list_all}
+use Rattle.std.proofs.lemmas.Bool.{eq-eqb, ne_eqb, eqb-true, or_right, lt-ltb}
 use Rattle.std.proofs.lemmas.Option.{slice_get_within}
 use Rattle.std.proofs.lemmas.List.{length-set}
 use Rattle.taco_unit.specs.declared.kind.Kind.{Kind}
 use Rattle.taco_unit.specs.declared.kind.Kind.TheVariants as kind
 use Rattle.taco_unit.specs.declared.unit.ClassDef.{ClassDef}
 use Rattle.taco_unit.specs.declared.unit.FieldDef.{FieldDef}
-use Rattle.taco_unit.specs.Kinds.{is_class_kind}
 use Rattle.taco_unit.specs.Well.{IsWell}
-use Rattle.heap_core.specs.declared.value.Value.{Value}
-use Rattle.heap_core.specs.declared.value.Value.TheVariants.{Null, Obj, Num, Flag}
-use Rattle.heap_core.specs.declared.value.Object.{Object}
-use Rattle.heap_core.specs.declared.value.Seen.{Seen}
-use Rattle.heap_core.specs.declared.value.Seen.TheVariants.{Is, Bad, Out}
+use Rattle.heap_core.specs.declared.value.Value.TheVariants.{Obj}
 use Rattle.heap_core.specs.Posed.{Posed, InRange}
-use Rattle.heap_core.specs.Outcomes.{in_bits, gives, is_value, is_object, is_null, zero_of}
-use Rattle.heap_core.specs.Heap.{Heap, is_of, class_at, cell_of, field, declares, first_value, blank, has_room, grown}
-use Rattle.heap_core.specs.Start.{has_kind}
+use Rattle.heap_core.specs.Outcomes.{zero_of}
+use Rattle.heap_core.specs.Heap.{Heap, class_at, first_value, blank, has_room, grown}
 use Rattle.heap_core.proofs.FieldLaws.{none_some, some_same}
 use Rattle.heap_core.proofs.Lists.{all_from}
-use Rattle.heap_core.proofs.GivenFields.{IsGrown, grown_is, grown_length, grown_class, grown_field}
+use Rattle.heap_core.proofs.GivenFields.{IsGrown, grown_is, grown_length, grown_class}
 use Rattle.rel_core.specs.declared.formula.Formula.{Formula}
 use Rattle.rel_core.specs.declared.relation.RelVar.{RelVar}
 use Rattle.rel_core.specs.declared.relation.What.{What}
 use Rattle.rel_core.specs.declared.relation.What.TheVariants as what
-use Rattle.rel_core.specs.Reading.{Reading, numbers_below, is_reference}
-use Rattle.rel_core.specs.Meaning.{has_object, joined, only_object, fitting, with_both, are_of, is_changed, holds}
+use Rattle.rel_core.specs.Reading.{Reading, numbers_below}
+use Rattle.rel_core.specs.Meaning.{holds}
 use Rattle.rel_core.specs.Uses.{Kinds, AsSet, is_slot, is_variable, is_sorted, IsOf}
-use Rattle.rel_core.specs.Shown.{ShowsValue, ShowsCell, ShowsHeap, live_relation, class_relation, field_relation}
+use Rattle.rel_core.specs.Shown.{ShowsValue}
 use Rattle.dyn_core.specs.declared.prog.Act.TheVariants.{Make}
 use Rattle.dyn_core.specs.declared.state.DynState.{DynState}
 use Rattle.dyn_core.specs.States.{var_at, with_var}
-use Rattle.dyn_core.specs.Actions.{acted}
 use Rattle.dyn_core.specs.Kinds.{HasKinds}
 use Rattle.dyn_steps.specs.declared.point.Point.{Point}
 use Rattle.dyn_steps.specs.declared.part.Front.{Front}
 use Rattle.dyn_steps.specs.declared.part.Part.{Part}
-use Rattle.dyn_steps.specs.Points.{index_of, relation_at, slot, indices_of, fields_moved, made_point, var_moved, IsPoint}
+use Rattle.dyn_steps.specs.Points.{index_of, relation_at, slot, fields_moved, made_point, IsPoint}
 use Rattle.dyn_steps.specs.Agreeing.{IsAlike, Agree}
-use Rattle.dyn_steps.specs.Looked.{Vars, without, looked_at}
-use Rattle.dyn_steps.specs.Meanings.{there, is_next, is_placed, is_first, field_kind, is_grown, live_grown as live_part, class_grown as class_part, field_grown, is_made, same_sets}
+use Rattle.dyn_steps.specs.Looked.{Vars, looked_at}
+use Rattle.dyn_steps.specs.Meanings.{there, is_placed, live_grown as live_part, class_grown as class_part, field_grown, is_made}
 use Rattle.dyn_steps.specs.Paths.{Shows, Acts, GoesOn, IsPath, IsStep, made_set}
 use Rattle.dyn_core.proofs.Vars.{var_set}
 use Rattle.dyn_core.proofs.Fitting.{var_is}
 use Rattle.dyn_core.proofs.Kept.{act_keeps_kinds}
-use Rattle.dyn_steps.proofs.Moving.{alike_on, agree_less, agree_on, agree_at, value_moves, shows_both, vars_shown, shows_move}
+use Rattle.dyn_steps.proofs.Moving.{alike_on, agree_less, agree_on, agree_at, shows_both, vars_shown, shows_move}
 use Rattle.dyn_steps.proofs.Readings.{renewed, moved, spliced, shifted, renewed_of, moved_of, spliced_of, shifted_of, renewed_new, renewed_old, moved_alike}
 use Rattle.dyn_steps.proofs.SetVars.{state_reading, state_of, state_value, state_cell, state_live, state_class, var_indices, var_shown_after}
 use Rattle.dyn_steps.proofs.Acts.{others_in, variable_used}
 use Rattle.dyn_steps.proofs.Tested.{path_alike}
-use Rattle.dyn_steps.proofs.Numbers.{one_object, one_joined, all_below, all_numbers, sets_alike, sets_same}
-use Rattle.dyn_steps.proofs.Saying.{Says, says_set, int_same, same_int, refs_within}
-use Rattle.dyn_steps.proofs.Places.{IsAlikeAt, place_back, place_on, place_at, place_moves, changed_here, changed_apart, changed_from}
-use Rattle.dyn_steps.proofs.Puts.{is_of_class}
+use Rattle.dyn_steps.proofs.Places.{IsAlikeAt, place_back, place_on, place_at, place_moves}
 use Rattle.dyn_steps.proofs.Places.{spliced_first, spliced_second}
-use Rattle.dyn_steps.proofs.MovedFields.{is_listed, listed_at, all_listed, listed_declared, listed_own, listed_there, fields_length, fields_vars, fields_kept, fields_new}
-use Rattle.dyn_steps.proofs.FirstValues.{there_is, object_value, null_value, class_is, first_shows, shows_first}
+use Rattle.dyn_steps.proofs.MovedFields.{is_listed, listed_at, listed_own, listed_there, fields_length, fields_vars, fields_kept, fields_new}
 use Rattle.dyn_steps.proofs.MadeHeap as heaps
 use Rattle.dyn_steps.proofs.MadeSaid as said
 
@@ -127,7 +114,7 @@ module _ (p : Posed) (kinds : List Kind) (from : Front) (x c : ℕ) (d : ClassDe
     reading_is =
         renewed_of p (slice_get kinds) (from.next + 1) (shifted h state) (next_reading m t h) (shifted_of p (slice_get kinds) some_places h state state_is)
         (renewed_of p (slice_get kinds) from.next (with_new m t h) m
-            (spliced_of p (slice_get kinds) (test_new h) state (moved (index_of from.at) m) state_is (moved_of p (slice_get kinds) (index_of from.at) m of)) of)
+        (spliced_of p (slice_get kinds) (test_new h) state (moved (index_of from.at) m) state_is (moved_of p (slice_get kinds) (index_of from.at) m of)) of)
 
     next_kept : Agree (from.next + 1) (next_reading m t h) reading
     next_kept = renewed_old (from.next + 1) (shifted h state) (next_reading m t h)
@@ -234,23 +221,25 @@ module _ (p : Posed) (kinds : List Kind) (from : Front) (x c : ℕ) (d : ClassDe
         (λ y inside apart. others_in x after y inside apart)
         (shows_both p kinds before m middle (record s { objects = heap }) (heaps.made_heap p kinds from x c d well range class point m s.objects heap g objects shown.heap is)
         (λ y k inside there. subst (λ i. ShowsValue m k (slot y i) 0 (var_at s.vars y)) (sym (ap (λ vars. get_or vars y 0) middle_vars))
-            (vars_shown p kinds before m from.at s shown y k inside there)))
+        (vars_shown p kinds before m from.at s shown y k inside there)))
         is.target
 
     -- there is room, and so a new object
     grown_works : (heap : Heap) → length heap < p.scope.objects → (after : Heap) × (grown p heap c ≡ Some after)
-    grown_works heap room =
-        (heap ++ record { class = c; cells = map (first_value p.unit.fields) d.fields } ∷ [],
-        ap (λ b. if b then option_map (λ y. heap ++ y ∷ []) (blank p.unit c) else None) (lt-ltb (length heap) p.scope.objects room)
-        ∙ ap (λ z. option_map (λ y. heap ++ y ∷ []) (option_map (λ (e : ClassDef). record { class = c; cells = map (first_value p.unit.fields) e.fields }) z)) class)
+    grown_works heap room = (
+      heap ++ record { class = c; cells = map (first_value p.unit.fields) d.fields } ∷ [],
+      ap (λ b. if b then option_map (λ y. heap ++ y ∷ []) (blank p.unit c) else None) (lt-ltb (length heap) p.scope.objects room)
+          ∙ ap (λ z. option_map (λ y. heap ++ y ∷ []) (option_map (λ (e : ClassDef). record { class = c; cells = map (first_value p.unit.fields) e.fields }) z)) class,
+    )
 
     make_sound : (m : Reading) (s : DynState) → Of m → holds f m ≡ true → HasKinds p kinds s → Shows p kinds before m from.at s → (t : DynState) × Acts p (Make x c) s t × Shows p kinds after m to t
     make_sound m s of is has shown =
         let both = said.made_sound p kinds from x c d well range class point m s.objects of shown.heap (sym (meaning m) ∙ is) in
-        let done = grown_works s.objects both.0 in
-        (record { vars = with_var s.vars x (Obj (length s.objects)); objects = done.0 },
-        ap (option_map (λ h. record { vars = with_var s.vars x (Obj (length s.objects)); objects = h })) done.1,
-        made_shown m s done.0 (grown_is p s.objects c done.0 done.1) of.objects shown both.1)
+        let done = grown_works s.objects both.0 in (
+          record { vars = with_var s.vars x (Obj (length s.objects)); objects = done.0 },
+          ap (option_map (λ h. record { vars = with_var s.vars x (Obj (length s.objects)); objects = h })) done.1,
+          made_shown m s done.0 (grown_is p s.objects c done.0 done.1) of.objects shown both.1,
+        )
 
     -- what the action has done
     record Grows (s t : DynState) : Type 0 where
@@ -275,9 +264,9 @@ module _ (p : Posed) (kinds : List Kind) (from : Front) (x c : ℕ) (d : ClassDe
           let same : u.objects ≡ (made_reading m ended (length s.objects)).objects = is.objects ∙ sym is_of_problem.objects in
           let near : Agree from.next (made_reading m ended (length s.objects)) u = agree_less from.next (from.next + 1 + 1) (made_reading m ended (length s.objects)) u (omega arith) agree in
           let shown_u = shows_move p kinds before (made_reading m ended (length s.objects)) u from.at from.at s same
-              (λ z looked. agree_at p kinds from.next from.at (made_reading m ended (length s.objects)) u point near z) shown_on in
+          (λ z looked. agree_at p kinds from.next from.at (made_reading m ended (length s.objects)) u point near z) shown_on in
           meaning u ∙ said.made_full p kinds from x c d well range class point u s.objects is shown_u.heap w.grown.room
-              (said.made_agree p kinds from x c d well range class point (made_reading m ended (length s.objects)) u (length s.objects) same agree is_made_on);
+          (said.made_agree p kinds from x c d well range class point (made_reading m ended (length s.objects)) u (length s.objects) same agree is_made_on);
     })
       where
         w : Grows s t
@@ -386,10 +375,10 @@ pub made_of :
     → r ≡ slot x n
     → declared ≡ p.unit.fields
     → (not (there m (relation_at at what.Live) (p.scope.objects - 1)) && list_all (is_placed m r (relation_at at what.Live))
-        (numbers_below p.scope.objects) && live_part m at n r && class_part m at n r c && list_all (field_grown m declared at n r) fs)
-        ≡ is_made m p at n x c fs
+    (numbers_below p.scope.objects) && live_part m at n r && class_part m at n r c && list_all (field_grown m declared at n r) fs)
+    ≡ is_made m p at n x c fs
 made_of m p at n x c fs r declared is same =
     ap (λ z. not (there m (relation_at at what.Live) (p.scope.objects - 1)) && list_all (is_placed m z (relation_at at what.Live))
-        (numbers_below p.scope.objects) && live_part m at n z && class_part m at n z c && list_all (field_grown m declared at n z) fs) is
+    (numbers_below p.scope.objects) && live_part m at n z && class_part m at n z c && list_all (field_grown m declared at n z) fs) is
     ∙ ap (λ ds. not (there m (relation_at at what.Live) (p.scope.objects - 1)) && list_all (is_placed m (slot x n) (relation_at at what.Live))
-        (numbers_below p.scope.objects) && live_part m at n (slot x n) && class_part m at n (slot x n) c && list_all (field_grown m ds at n (slot x n)) fs) same
+    (numbers_below p.scope.objects) && live_part m at n (slot x n) && class_part m at n (slot x n) c && list_all (field_grown m ds at n (slot x n)) fs) same

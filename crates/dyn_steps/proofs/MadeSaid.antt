@@ -1,67 +1,40 @@
 -- A new object: what the formula says.
-use Rattle.std.proofs.Common.{◌≡◌, ◌⊎◌, ℕ, zero, suc, ◌+◌, ◌-◌, ◌<◌, ◌≤◌, Bool, true, false, not, ◌&&◌, ◌||◌, List, []}
-use Rattle.std.proofs.Common.{◌∷◌, ◌++◌, length, map, Option, Some, None, inl, inr, refl, sym, ◌∙◌, ap, subst, arith, get_or, pow_pos}
-use Rattle.std.specs.Prelude.{◌==◌, ◌^◌, nat_lt, ℤ, pos, if◌then◌else◌, slice_get, is_some, option_map}
-use Rattle.std.specs.Ordering.{int_eq}
-use Rattle.std.specs.List.{list_all, range_with_len}
+use Rattle.std.proofs.Common.{◌≡◌, ◌⊎◌, ℕ, zero, suc, ◌+◌, ◌-◌, ◌<◌, ◌≤◌, Bool, true, false, not, ◌&&◌, ◌||◌, List}
+use Rattle.std.proofs.Common.{length, Some, inl, inr, refl, sym, ◌∙◌, ap, subst, arith}
+use Rattle.std.specs.Prelude.{◌==◌, nat_lt, pos, slice_get}
+use Rattle.std.specs.List.{list_all}
 use Rattle.std.specs.Option.{option_map_or}
-use Rattle.std.proofs.lemmas.Bool.{cases_eq, eq-eqb, ne_eqb, eqb-true, and_parts, and_from, or_left, or_right, false≢true, false_from_ne_true, lt-ltb, ltb-true}
-use Rattle.std.proofs.lemmas.Option.{slice_get_within}
-use Rattle.std.proofs.lemmas.List.{length-set}
+use Rattle.std.proofs.lemmas.Bool.{eq-eqb, ne_eqb, eqb-true, and_parts, and_from, or_left, or_right, false≢true, false_from_ne_true, lt-ltb, ltb-true}
 use Rattle.taco_unit.specs.declared.kind.Kind.{Kind}
 use Rattle.taco_unit.specs.declared.kind.Kind.TheVariants as kind
 use Rattle.taco_unit.specs.declared.unit.ClassDef.{ClassDef}
 use Rattle.taco_unit.specs.declared.unit.FieldDef.{FieldDef}
-use Rattle.taco_unit.specs.Kinds.{is_class_kind}
 use Rattle.taco_unit.specs.Well.{IsWell}
 use Rattle.heap_core.specs.declared.value.Value.{Value}
-use Rattle.heap_core.specs.declared.value.Value.TheVariants.{Null, Obj, Num, Flag}
-use Rattle.heap_core.specs.declared.value.Object.{Object}
-use Rattle.heap_core.specs.declared.value.Seen.{Seen}
-use Rattle.heap_core.specs.declared.value.Seen.TheVariants.{Is, Bad, Out}
+use Rattle.heap_core.specs.declared.value.Value.TheVariants.{Obj}
+use Rattle.heap_core.specs.declared.value.Seen.TheVariants.{Is}
 use Rattle.heap_core.specs.Posed.{Posed, InRange}
-use Rattle.heap_core.specs.Outcomes.{in_bits, gives, is_value, is_object, is_null, zero_of}
-use Rattle.heap_core.specs.Heap.{Heap, is_of, class_at, cell_of, field, declares, first_value, blank, has_room, grown}
-use Rattle.heap_core.specs.Start.{has_kind}
-use Rattle.heap_core.proofs.FieldLaws.{none_some, some_same}
+use Rattle.heap_core.specs.Outcomes.{is_object, zero_of}
+use Rattle.heap_core.specs.Heap.{Heap}
 use Rattle.heap_core.proofs.Lists.{all_from}
-use Rattle.heap_core.proofs.GivenFields.{IsGrown, grown_is, grown_length, grown_class, grown_field}
-use Rattle.rel_core.specs.declared.formula.Formula.{Formula}
 use Rattle.rel_core.specs.declared.relation.RelVar.{RelVar}
 use Rattle.rel_core.specs.declared.relation.What.{What}
 use Rattle.rel_core.specs.declared.relation.What.TheVariants as what
-use Rattle.rel_core.specs.Reading.{Reading, numbers_below, is_reference}
-use Rattle.rel_core.specs.Meaning.{has_object, joined, only_object, fitting, with_both, are_of, is_changed, holds}
-use Rattle.rel_core.specs.Uses.{Kinds, AsSet, is_slot, is_variable, is_sorted, IsOf}
-use Rattle.rel_core.specs.Shown.{ShowsValue, ShowsCell, ShowsHeap, live_relation, class_relation, field_relation}
-use Rattle.dyn_core.specs.declared.prog.Act.TheVariants.{Make}
-use Rattle.dyn_core.specs.declared.state.DynState.{DynState}
-use Rattle.dyn_core.specs.States.{var_at, with_var}
-use Rattle.dyn_core.specs.Actions.{acted}
-use Rattle.dyn_core.specs.Kinds.{HasKinds}
-use Rattle.dyn_steps.specs.declared.point.Point.{Point}
+use Rattle.rel_core.specs.Reading.{Reading, numbers_below}
+use Rattle.rel_core.specs.Meaning.{has_object, are_of, is_changed}
+use Rattle.rel_core.specs.Uses.{IsOf}
+use Rattle.rel_core.specs.Shown.{ShowsValue, ShowsHeap}
 use Rattle.dyn_steps.specs.declared.part.Front.{Front}
-use Rattle.dyn_steps.specs.declared.part.Part.{Part}
-use Rattle.dyn_steps.specs.Points.{index_of, relation_at, slot, indices_of, fields_moved, made_point, var_moved, IsPoint}
-use Rattle.dyn_steps.specs.Agreeing.{IsAlike, Agree}
-use Rattle.dyn_steps.specs.Looked.{Vars, without, looked_at}
-use Rattle.dyn_steps.specs.Meanings.{there, is_next, is_placed, is_first, field_kind, is_grown, live_grown as live_part, class_grown as class_part, field_grown, is_made, same_sets}
-use Rattle.dyn_steps.specs.Paths.{Shows, Acts, GoesOn, IsPath, IsStep, made_set}
-use Rattle.dyn_core.proofs.Vars.{var_set}
-use Rattle.dyn_core.proofs.Fitting.{var_is}
-use Rattle.dyn_core.proofs.Kept.{act_keeps_kinds}
-use Rattle.dyn_steps.proofs.Moving.{alike_on, agree_less, agree_on, agree_at, value_moves, shows_both, vars_shown, shows_move}
-use Rattle.dyn_steps.proofs.Readings.{renewed, moved, spliced, shifted, renewed_of, moved_of, spliced_of, shifted_of, renewed_new, renewed_old, moved_alike}
-use Rattle.dyn_steps.proofs.SetVars.{state_reading, state_of, state_value, state_cell, state_live, state_class, var_indices, var_shown_after}
-use Rattle.dyn_steps.proofs.Acts.{others_in, variable_used}
-use Rattle.dyn_steps.proofs.Tested.{path_alike}
-use Rattle.dyn_steps.proofs.Numbers.{one_object, one_joined, all_below, all_numbers, sets_alike, sets_same}
-use Rattle.dyn_steps.proofs.Saying.{Says, says_set, int_same, same_int, refs_within}
-use Rattle.dyn_steps.proofs.Places.{IsAlikeAt, place_back, place_on, place_at, place_moves, changed_here, changed_apart, changed_from}
-use Rattle.dyn_steps.proofs.Puts.{is_of_class}
-use Rattle.dyn_steps.proofs.Places.{spliced_first, spliced_second}
-use Rattle.dyn_steps.proofs.MovedFields.{is_listed, listed_at, all_listed, listed_declared, listed_own, listed_there, fields_length, fields_vars, fields_kept, fields_new}
-use Rattle.dyn_steps.proofs.FirstValues.{there_is, object_value, null_value, class_is, first_shows, shows_first}
+use Rattle.dyn_steps.specs.Points.{slot, indices_of, IsPoint}
+use Rattle.dyn_steps.specs.Agreeing.{Agree}
+use Rattle.dyn_steps.specs.Meanings.{there, is_next, is_placed, is_first, field_kind, field_grown, is_made, same_sets}
+use Rattle.dyn_steps.proofs.Moving.{value_moves}
+use Rattle.dyn_steps.proofs.Readings.{moved}
+use Rattle.dyn_steps.proofs.Numbers.{all_below, all_numbers}
+use Rattle.dyn_steps.proofs.Saying.{says_set, int_same, same_int}
+use Rattle.dyn_steps.proofs.Places.{IsAlikeAt, place_back, place_on, place_at, changed_here, changed_apart, changed_from}
+use Rattle.dyn_steps.proofs.MovedFields.{is_listed, listed_at, all_listed, listed_there}
+use Rattle.dyn_steps.proofs.FirstValues.{there_is, object_value, class_is, first_shows, shows_first}
 use Rattle.dyn_steps.proofs.MadeHeap as heaps
 
 module _ (p : Posed) (kinds : List Kind) (from : Front) (x c : ℕ) (d : ClassDef) (well : IsWell p.unit) (range : InRange p) (class : slice_get p.unit.classes c ≡ Some d)
@@ -210,7 +183,7 @@ module _ (p : Posed) (kinds : List Kind) (from : Front) (x c : ℕ) (d : ClassDe
       let objects = of.objects in
       let last : p.scope.objects - 1 < m.objects = omega (arith, low, objects) in
       let free : nat_lt (p.scope.objects - 1) (length heap) ≡ false = sym (there_is m (old what.Live) (p.scope.objects - 1) last ∙ shown.live (p.scope.objects - 1))
-          ∙ not_less (there m (old what.Live) (p.scope.objects - 1)) is in
+      ∙ not_less (there m (old what.Live) (p.scope.objects - 1)) is in
       let high : length heap ≤ p.scope.objects - 1 = not_below (p.scope.objects - 1) (length heap) free in
       omega (arith, low, high)
 
@@ -228,16 +201,18 @@ module _ (p : Posed) (kinds : List Kind) (from : Front) (x c : ℕ) (d : ClassDe
       values is = cc
 
   pub made_sound : (m : Reading) (heap : Heap) → Of m → ShowsHeap p.unit m (indices_of from.at) heap → made m ≡ true → (length heap < p.scope.objects) × IsMade m (length heap)
-  made_sound m heap of shown is =
-      (room, record {
-        target = target;
-        live_first = sym (there_is m (given what.Live) 0 some) ∙ live.0;
-        class_first = int_same (m.number (given what.ClassOf) 0) (pos c) (sym (class_is m 0 c (given what.ClassOf) some) ∙ classes.0);
-        first = λ f e there listed. first_shows p (slice_get kinds) m of some e.kind (given (what.Field f))
-            (ap (λ k. is_first m k (given (what.Field f))) (sym (known_kind f e there)) ∙ (field_is f listed).0);
-        here = here;
-        apart = apart;
-      })
+  made_sound m heap of shown is = (
+    room,
+    record {
+      target = target;
+      live_first = sym (there_is m (given what.Live) 0 some) ∙ live.0;
+      class_first = int_same (m.number (given what.ClassOf) 0) (pos c) (sym (class_is m 0 c (given what.ClassOf) some) ∙ classes.0);
+      first = λ f e there listed. first_shows p (slice_get kinds) m of some e.kind (given (what.Field f))
+          (ap (λ k. is_first m k (given (what.Field f))) (sym (known_kind f e there)) ∙ (field_is f listed).0);
+      here = here;
+      apart = apart;
+    },
+  )
     where
       q : Pieces m
       q = pieces m is

@@ -1,27 +1,23 @@
 -- The fields that a class lists, and points at which all of them have another index.
-use Rattle.std.proofs.Common.{◌≡◌, ◌⊎◌, ℕ, zero, suc, ◌+◌, ◌<◌, Bool, true, false, ◌&&◌, ◌||◌, List, [], ◌∷◌, length, Option, Some, None, inl, inr, refl, sym, ◌∙◌, ap, subst, arith, get_or}
-use Rattle.std.specs.Prelude.{◌==◌, slice_get, slice_set, position, filter, is_some, option_and_then}
+use Rattle.std.proofs.Common.{◌≡◌, ℕ, zero, suc, ◌<◌, Bool, true, false, ◌||◌, List, [], ◌∷◌, length, Option, Some, None, inl, inr, refl, sym, ◌∙◌, ap, arith, get_or}
+use Rattle.std.specs.Prelude.{◌==◌, slice_get, slice_set, position, is_some, option_and_then}
 use Rattle.std.specs.List.{list_all, list_any, range_with_len}
 use Rattle.std.specs.Option.{option_map_or}
 use Rattle.std.proofs.lemmas.Bool.{cases_eq, eq-eqb, ne_eqb, eqb-true, and_parts, or_left, or_right, false≢true}
-use Rattle.std.proofs.lemmas.Option.{slice_get_within, slice_get-get_or}
+use Rattle.std.proofs.lemmas.Option.{slice_get-get_or}
 use Rattle.std.proofs.lemmas.List.{length-set, get_or-set_same, get_or-set_other}
 use Rattle.std.proofs.lemmas.List.Quantifiers.{position-Some}
-use Rattle.taco_unit.specs.declared.kind.Kind.{Kind}
 use Rattle.taco_unit.specs.declared.unit.ClassDef.{ClassDef}
 use Rattle.taco_unit.specs.declared.unit.FieldDef.{FieldDef}
 use Rattle.taco_unit.specs.Parts.{Parts}
-use Rattle.taco_unit.specs.Well.{IsWell, fields_of}
-use Rattle.heap_core.specs.Posed.{Posed}
+use Rattle.taco_unit.specs.Well.{IsWell}
 use Rattle.heap_core.specs.Heap.{declares}
-use Rattle.heap_core.proofs.FieldLaws.{none_some}
-use Rattle.heap_core.proofs.Lists.{all_at, all_filtered, place_found}
+use Rattle.heap_core.proofs.Lists.{all_filtered, place_found}
 use Rattle.heap_core.proofs.GivenFields.{declares_own}
-use Rattle.rel_core.specs.declared.relation.What.{What}
 use Rattle.rel_core.specs.declared.relation.What.TheVariants as what
 use Rattle.dyn_core.proofs.Fitting.{there_passes}
 use Rattle.dyn_steps.specs.declared.point.Point.{Point}
-use Rattle.dyn_steps.specs.Points.{index_of, field_moved, fields_moved, IsPoint}
+use Rattle.dyn_steps.specs.Points.{index_of, field_moved, fields_moved}
 use Rattle.dyn_steps.proofs.Numbers.{both_ways}
 
 -- the field is one of these

@@ -1,6 +1,6 @@
 -- What a reading shows, by what its relations have: it moves where another relation has the same.
 use Rattle.std.proofs.Common.{◌≡◌, ℕ, zero, suc, ◌+◌, ◌<◌, ◌≤◌, Bool, true, false, List, [], ◌∷◌, length, Some, None, refl, sym, ◌∙◌, ap, subst, arith, get_or}
-use Rattle.std.specs.Prelude.{◌==◌, slice_get, if◌then◌else◌}
+use Rattle.std.specs.Prelude.{slice_get, if◌then◌else◌}
 use Rattle.std.proofs.lemmas.Bool.{eq-eqb, ne_eqb}
 use Rattle.taco_unit.specs.declared.kind.Kind.{Kind}
 use Rattle.taco_unit.specs.declared.kind.Kind.TheVariants as kind
@@ -21,8 +21,8 @@ use Rattle.dyn_core.specs.States.{var_at}
 use Rattle.dyn_steps.specs.declared.point.Point.{Point}
 use Rattle.dyn_steps.specs.Points.{index_of, relation_at, numbered, indices_of, IsPoint}
 use Rattle.dyn_steps.specs.Agreeing.{IsAlike, Agree}
-use Rattle.dyn_steps.specs.Looked.{Vars, kinds_in, IsLooked}
-use Rattle.dyn_steps.specs.Paths.{state_in, Shows}
+use Rattle.dyn_steps.specs.Looked.{Vars, IsLooked}
+use Rattle.dyn_steps.specs.Paths.{Shows}
 
 -- ## the indices of variables
 
@@ -78,8 +78,12 @@ heap_moves p m u at to heap same alike shown = record {
   classes = λ o x there. (alike what.ClassOf refl).number o ∙ shown.classes o x there;
   cells = λ f d o there of.
       let cell = shown.cells f d o there of in
-      record { value = cell.value; is = cell.is; shown = value_moves m (relation_at at (what.Field f)) u (relation_at to (what.Field f)) d.kind o cell.value same
-          (alike (what.Field f) refl) cell.shown };
+      record {
+        value = cell.value;
+        is = cell.is;
+        shown = value_moves m (relation_at at (what.Field f)) u (relation_at to (what.Field f)) d.kind o cell.value same
+            (alike (what.Field f) refl) cell.shown;
+      };
   links = λ f d o v there of. (alike (what.Field f) refl).refs o v ∙ shown.links f d o v there of;
 }
 
@@ -111,7 +115,7 @@ pub shows_move : (p : Posed) (kinds : List Kind) (vars : Vars) (m u : Reading) (
 shows_move p kinds vars m u at to s same alike shown =
     shows_both p kinds vars u to s (heap_moves p.unit m u at to s.objects same heap_alike shown.heap)
     (λ x k inside is. value_moves m (relation_at at (what.Slot x)) u (relation_at to (what.Slot x)) k 0 (var_at s.vars x) same (alike (what.Slot x) inside)
-        (vars_shown p kinds vars m at s shown x k inside is))
+    (vars_shown p kinds vars m at s shown x k inside is))
   where
     heap_alike : (w : What) → is_slot w ≡ false → IsAlike m (relation_at at w) u (relation_at to w)
     heap_alike what.Live is = alike what.Live tt

@@ -1,11 +1,11 @@
 -- Tests of the numbers below a bound, and sets of one object.
-use Rattle.std.proofs.Common.{◌≡◌, ℕ, zero, suc, ◌+◌, ◌<◌, ◌≤◌, Bool, true, false, not, ◌&&◌, ◌||◌, List, [], ◌∷◌, map, Some, None, inl, inr, refl, sym, ◌∙◌, ap, arith}
-use Rattle.std.specs.Prelude.{◌==◌, nat_lt, filter}
+use Rattle.std.proofs.Common.{◌≡◌, ℕ, zero, suc, ◌+◌, ◌<◌, ◌≤◌, Bool, true, false, not, ◌&&◌, ◌||◌, List, [], ◌∷◌, map, Some, inl, inr, refl, sym, ◌∙◌, ap, arith}
+use Rattle.std.specs.Prelude.{◌==◌, filter}
 use Rattle.std.specs.List.{list_all, list_any, range_with_len}
 use Rattle.std.proofs.lemmas.Bool.{cases_eq, eq-eqb, ne_eqb, ltb-true, false≢true, and_parts, and_from}
 use Rattle.heap_core.specs.declared.value.Value.{Value}
 use Rattle.heap_core.specs.declared.value.Value.TheVariants.{Null, Obj, Num, Flag}
-use Rattle.heap_core.specs.Outcomes.{is_value, is_null}
+use Rattle.heap_core.specs.Outcomes.{is_null}
 use Rattle.rel_core.specs.declared.relation.RelVar.{RelVar}
 use Rattle.rel_core.specs.Reading.{Reading, numbers_below, references, is_reference}
 use Rattle.rel_core.specs.Meaning.{ValueSet, has_object, joined, only_object, is_subset}

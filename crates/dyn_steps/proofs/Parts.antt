@@ -1,5 +1,5 @@
 -- The parts of actions, from what the formulas that are built are promised to mean.
-use Rattle.std.proofs.Common.{◌≡◌, ℕ, ◌+◌, Bool, true, false, ◌&&◌, List, Some, refl, sym, ◌∙◌, ap, subst, get_or}
+use Rattle.std.proofs.Common.{◌≡◌, ℕ, Bool, true, false, ◌&&◌, List, Some, refl, sym, ◌∙◌, ap, subst, get_or}
 use Rattle.std.specs.Prelude.{◌==◌, option_map, ℤ, ◌+ℤ◌, ◌-ℤ◌, ◌*ℤ◌, int_lt, slice_get}
 use Rattle.std.specs.Option.{option_map_or}
 use Rattle.std.proofs.lemmas.Bool.{and_from, eq-eqb}
@@ -128,7 +128,7 @@ module _ (p : Posed) (kinds : List Kind) (well : IsWell p.unit) (range : InRange
       (same_step p kinds from f well range x y z
       (λ j target first second. sorted p (slice_get kinds) (used kind.Flag r x from.next r_is target) (used_as k j y a y _ kind_is first a_is first) (used_as k j y b z _ kind_is first b_is second))
       (λ m. meaning m ∙ ap (λ w. same_flag (m.flag r 0) (same_variables m w a b)) kind_is
-          ∙ three (λ u v w. same_flag (m.flag u 0) (same_variables m (kind_at kinds y) v w)) r a b (new x) (old y) (old z) r_is a_is b_is))
+      ∙ three (λ u v w. same_flag (m.flag u 0) (same_variables m (kind_at kinds y) v w)) r a b (new x) (old y) (old z) r_is a_is b_is))
 
   pub read_part :
       (x y g : ℕ) (k : Kind) (r a b : RelVar)
@@ -140,10 +140,10 @@ module _ (p : Posed) (kinds : List Kind) (well : IsWell p.unit) (range : InRange
       subst (λ w. IsStep p kinds (Read x y g) from w) (sym is)
       (read_step p kinds from f well range x y g
       (λ d there target object. sorted p (slice_get kinds) (used (kind.Ref d.class) a y _ a_is object) (used_as k d.kind x r x from.next kind_is target r_is target)
-          (ap (λ z. is_spread p (slice_get kinds) (use_of_kind z) b) (kind_is ∙ kind_known kinds x d.kind target)
-          ∙ ap (λ z. is_spread p (slice_get kinds) (use_of_kind d.kind) z) b_is ∙ field_used p (slice_get kinds) g (get_or from.at.fields g 0) d there))
+      (ap (λ z. is_spread p (slice_get kinds) (use_of_kind z) b) (kind_is ∙ kind_known kinds x d.kind target)
+      ∙ ap (λ z. is_spread p (slice_get kinds) (use_of_kind d.kind) z) b_is ∙ field_used p (slice_get kinds) g (get_or from.at.fields g 0) d there))
       (λ m. meaning m ∙ ap (λ w. is_through m a && is_cell m w r a b) kind_is
-          ∙ three (λ u v w. is_through m v && is_cell m (kind_at kinds x) u v w) r a b (new x) (old y) (relation_at from.at (what.Field g)) r_is a_is b_is))
+      ∙ three (λ u v w. is_through m v && is_cell m (kind_at kinds x) u v w) r a b (new x) (old y) (relation_at from.at (what.Field g)) r_is a_is b_is))
 
   -- a field can change to the value of a variable of its kind
   field_changes : (g y i j k : ℕ) (d : FieldDef) → slice_get p.unit.fields g ≡ Some d → slice_get kinds y ≡ Some d.kind → can_change p (slice_get kinds) (field_at g i) (slot y j) (field_at g k) ≡ true
@@ -162,8 +162,8 @@ module _ (p : Posed) (kinds : List Kind) (well : IsWell p.unit) (range : InRange
       subst (λ w. IsStep p kinds (Write x g y) from w) (sym is)
       (write_step p kinds from f x g y well range
       (λ e there object value. sorted p (slice_get kinds) (used (kind.Ref e.class) a x (get_or from.at.vars x 0) a_is object)
-          (ap (λ z. can_change p (slice_get kinds) z b d) r_is ∙ ap (λ z. can_change p (slice_get kinds) (field_at g from.next) z d) b_is
-              ∙ ap (λ z. can_change p (slice_get kinds) (field_at g from.next) (old y) z) d_is
-          ∙ field_changes g y from.next (get_or from.at.vars y 0) (get_or from.at.fields g 0) e there value))
+      (ap (λ z. can_change p (slice_get kinds) z b d) r_is ∙ ap (λ z. can_change p (slice_get kinds) (field_at g from.next) z d) b_is
+      ∙ ap (λ z. can_change p (slice_get kinds) (field_at g from.next) (old y) z) d_is
+      ∙ field_changes g y from.next (get_or from.at.vars y 0) (get_or from.at.fields g 0) e there value))
       (λ m. meaning m ∙ ap (λ z. is_through m z && is_changed m r (m.refs z 0) b d) a_is
-          ∙ three (λ u v w. is_through m (old x) && is_changed m u (m.refs (old x) 0) v w) r b d (field_at g from.next) (old y) (relation_at from.at (what.Field g)) r_is b_is d_is))
+      ∙ three (λ u v w. is_through m (old x) && is_changed m u (m.refs (old x) 0) v w) r b d (field_at g from.next) (old y) (relation_at from.at (what.Field g)) r_is b_is d_is))

@@ -1,8 +1,8 @@
 -- What relations have at single places.
-use Rattle.std.proofs.Common.{◌≡◌, ◌⊎◌, ℕ, ◌+◌, ◌<◌, ◌≤◌, Bool, true, false, not, ◌&&◌, ◌||◌, List, Some, None, inl, inr, refl, sym, ◌∙◌, ap, arith}
+use Rattle.std.proofs.Common.{◌≡◌, ◌⊎◌, ℕ, ◌<◌, Bool, true, false, not, ◌&&◌, ◌||◌, Some, inl, inr, refl, sym, ◌∙◌, ap, arith}
 use Rattle.std.specs.Prelude.{◌==◌, ℤ, pos, nat_lt, if◌then◌else◌}
 use Rattle.std.specs.Ordering.{int_eq}
-use Rattle.std.specs.List.{list_all, range_with_len}
+use Rattle.std.specs.List.{list_all}
 use Rattle.std.specs.Option.{option_map_or}
 use Rattle.std.proofs.lemmas.Bool.{and_parts, and_from, false≢true, false_from_ne_true, lt-ltb, ltb-true}
 use Rattle.taco_unit.specs.declared.kind.Kind.{Kind}
@@ -10,11 +10,11 @@ use Rattle.taco_unit.specs.declared.kind.Kind.TheVariants as kind
 use Rattle.heap_core.specs.declared.value.Value.{Value}
 use Rattle.heap_core.specs.declared.value.Value.TheVariants.{Num, Flag}
 use Rattle.heap_core.specs.Posed.{Posed}
-use Rattle.heap_core.specs.Outcomes.{in_bits, is_null, is_value, same_flag}
+use Rattle.heap_core.specs.Outcomes.{in_bits, is_null, same_flag}
 use Rattle.rel_core.specs.declared.relation.RelVar.{RelVar}
 use Rattle.rel_core.specs.Reading.{Reading, references, is_reference}
 use Rattle.rel_core.specs.Meaning.{ValueSet, has_object, same_at, is_changed}
-use Rattle.rel_core.specs.Uses.{Kinds, Use, AsSet, AsNumber, AsFlag, AsClass, same_use, use_of_kind, use_of, has_use, is_slot, has_place, can_have, is_class_number, IsOf}
+use Rattle.rel_core.specs.Uses.{Kinds, Use, AsSet, AsNumber, AsFlag, AsClass, same_use, use_of_kind, use_of, has_use, is_slot, has_place, is_class_number, IsOf}
 use Rattle.rel_core.specs.Shown.{ShowsValue}
 use Rattle.dyn_steps.specs.Agreeing.{IsAlike}
 use Rattle.dyn_steps.proofs.Readings.{spliced}
@@ -77,12 +77,13 @@ module _ (p : Posed) (kinds : Kinds) (m : Reading) (of : IsOf p kinds m) where
   no_number r o not_number not_class = elim
       (or_cases (int_eq (m.number r o) (pos 0) || (has_place p kinds AsNumber r o && in_bits p.scope.ints (m.number r o))) (has_place p kinds AsClass r o && is_class_number p (m.number r o))
       (of.numbers r o)) [
-    | inl first ↦ elim (or_cases (int_eq (m.number r o) (pos 0)) (has_place p kinds AsNumber r o && in_bits p.scope.ints (m.number r o)) first) [
-        | inl zero ↦ int_same (m.number r o) (pos 0) zero
-        | inr number ↦ absurd (false≢true (sym not_number ∙ (and_parts (has_place p kinds AsNumber r o) (in_bits p.scope.ints (m.number r o)) number).0))
+        | inl first ↦ elim (or_cases (int_eq (m.number r o) (pos 0)) (has_place p kinds AsNumber r o && in_bits p.scope.ints (m.number r o)) first) [
+          | inl zero ↦ int_same (m.number r o) (pos 0) zero
+          | inr number ↦ absurd (false≢true (sym not_number ∙ (and_parts (has_place p kinds AsNumber r o) (in_bits p.scope.ints (m.number r o)) number).0))
+        ]
+        | inr class ↦ absurd (false≢true (sym not_class ∙ (and_parts (has_place p kinds AsClass r o) (is_class_number p (m.number r o)) class).0))
       ]
-    | inr class ↦ absurd (false≢true (sym not_class ∙ (and_parts (has_place p kinds AsClass r o) (is_class_number p (m.number r o)) class).0))
-  ]
+
   not_below : (u : Use) (r : RelVar) (o : ℕ) → nat_lt o p.scope.objects ≡ false → has_place p kinds u r o ≡ false
   not_below u r o beyond = false_from_ne_true (has_place p kinds u r o) (λ is.
       let front = and_parts (has_use p kinds u r.what && nat_lt o p.scope.objects) (not (is_slot r.what) || o == 0) is in

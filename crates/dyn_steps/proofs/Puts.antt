@@ -1,26 +1,16 @@
 -- Classes of objects, and fields that can be set.
-use Rattle.std.proofs.Common.{◌≡◌, ◌⊎◌, ℕ, ◌+◌, ◌<◌, ◌≤◌, Bool, true, false, not, ◌&&◌, List, length, Option, Some, None, inl, inr, refl, sym, ◌∙◌, ap, subst, arith, get_or}
-use Rattle.std.specs.Prelude.{◌==◌, nat_lt, pos, if◌then◌else◌, slice_get, slice_set, option_map, option_and_then}
+use Rattle.std.proofs.Common.{◌≡◌, ℕ, true, false, List, length, Option, Some, None, refl, ap}
+use Rattle.std.specs.Prelude.{◌==◌, nat_lt, if◌then◌else◌, slice_get, slice_set, option_map, option_and_then}
 use Rattle.std.specs.Option.{option_map_or}
-use Rattle.std.proofs.lemmas.Bool.{cases_eq, eq-eqb, ne_eqb, eqb-true, and_parts, and_from, false≢true, false_from_ne_true, lt-ltb}
+use Rattle.std.proofs.lemmas.Bool.{lt-ltb}
 use Rattle.std.proofs.lemmas.Option.{slice_get_within}
-use Rattle.std.proofs.lemmas.List.{length-set, get_or-set_same, get_or-set_other}
-use Rattle.taco_unit.specs.declared.kind.Kind.{Kind}
-use Rattle.taco_unit.specs.declared.kind.Kind.TheVariants as kind
 use Rattle.taco_unit.specs.declared.unit.ClassDef.{ClassDef}
-use Rattle.taco_unit.specs.declared.unit.FieldDef.{FieldDef}
-use Rattle.taco_unit.specs.Kinds.{is_class_kind}
-use Rattle.taco_unit.specs.Well.{IsWell}
 use Rattle.heap_core.specs.declared.value.Value.{Value}
-use Rattle.heap_core.specs.declared.value.Value.TheVariants.{Null, Obj, Num, Flag}
+use Rattle.heap_core.specs.declared.value.Value.TheVariants.{Obj}
 use Rattle.heap_core.specs.declared.value.Object.{Object}
-use Rattle.heap_core.specs.declared.value.Seen.{Seen}
-use Rattle.heap_core.specs.declared.value.Seen.TheVariants.{Is, Bad, Out}
-use Rattle.heap_core.specs.Posed.{Posed, InRange}
-use Rattle.heap_core.specs.Outcomes.{gives, is_value, value_in}
+use Rattle.heap_core.specs.declared.value.Seen.TheVariants.{Is}
+use Rattle.heap_core.specs.Outcomes.{value_in}
 use Rattle.heap_core.specs.Heap.{Heap, is_of, class_at, place_of, cell_of, field, put, put_cell}
-use Rattle.heap_core.specs.Start.{has_kind}
-use Rattle.heap_core.proofs.FieldLaws.{none_some, some_same, IsPut, put_is, put_length, put_class, put_field}
 
 -- an object of a class, by the class at its number
 pub is_of_class : (heap : Heap) (c o : ℕ) → is_of heap c o ≡ option_map_or (λ k. k == c) (class_at heap o) false

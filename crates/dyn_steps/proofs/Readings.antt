@@ -1,9 +1,8 @@
 -- Readings that go on from others.
-use Rattle.std.proofs.Common.{◌≡◌, ◌⊎◌, ℕ, ◌<◌, Bool, true, false, not, ◌&&◌, ◌||◌, inl, inr, refl, sym, ap, subst, arith}
+use Rattle.std.proofs.Common.{◌≡◌, ◌⊎◌, ℕ, Bool, true, false, not, ◌&&◌, ◌||◌, inl, inr, refl, sym, ap, subst, arith}
 use Rattle.std.specs.Prelude.{◌==◌, nat_lt, ℤ, pos, if◌then◌else◌}
 use Rattle.std.specs.Ordering.{int_eq}
 use Rattle.std.proofs.lemmas.Bool.{eq-eqb, ne_eqb, eqb-true, and_parts, and_from, or_left, or_right}
-use Rattle.heap_core.specs.declared.value.Value.{Value}
 use Rattle.heap_core.specs.Posed.{Posed}
 use Rattle.heap_core.specs.Outcomes.{in_bits}
 use Rattle.rel_core.specs.declared.relation.RelVar.{RelVar}
@@ -127,14 +126,14 @@ module _ (p : Posed) (kinds : Kinds) (some : nat_lt 0 p.scope.objects ≡ true) 
   pub shifted_number : (o : ℕ) (z : ℤ) → can_have p kinds r (if o == 0 then h else o) z ≡ true → can_have p kinds r o z ≡ true
   shifted_number o z has = elim (or_cases (int_eq z (pos 0) || (has_place p kinds AsNumber r i && in_bits p.scope.ints z)) (has_place p kinds AsClass r i && is_class_number p z) has) [
     | inl first ↦ elim (or_cases (int_eq z (pos 0)) (has_place p kinds AsNumber r i && in_bits p.scope.ints z) first) [
-        | inl zero ↦ or_left (int_eq z (pos 0) || (has_place p kinds AsNumber r o && in_bits p.scope.ints z)) (has_place p kinds AsClass r o && is_class_number p z)
-            (or_left (int_eq z (pos 0)) (has_place p kinds AsNumber r o && in_bits p.scope.ints z) zero)
-        | inr number ↦
-            let both = and_parts (has_place p kinds AsNumber r i) (in_bits p.scope.ints z) number in
-            or_left (int_eq z (pos 0) || (has_place p kinds AsNumber r o && in_bits p.scope.ints z)) (has_place p kinds AsClass r o && is_class_number p z)
-            (or_right (int_eq z (pos 0)) (has_place p kinds AsNumber r o && in_bits p.scope.ints z)
-                (and_from (has_place p kinds AsNumber r o) (in_bits p.scope.ints z) (shifted_place AsNumber o both.0) both.1))
-      ]
+      | inl zero ↦ or_left (int_eq z (pos 0) || (has_place p kinds AsNumber r o && in_bits p.scope.ints z)) (has_place p kinds AsClass r o && is_class_number p z)
+          (or_left (int_eq z (pos 0)) (has_place p kinds AsNumber r o && in_bits p.scope.ints z) zero)
+      | inr number ↦
+          let both = and_parts (has_place p kinds AsNumber r i) (in_bits p.scope.ints z) number in
+          or_left (int_eq z (pos 0) || (has_place p kinds AsNumber r o && in_bits p.scope.ints z)) (has_place p kinds AsClass r o && is_class_number p z)
+          (or_right (int_eq z (pos 0)) (has_place p kinds AsNumber r o && in_bits p.scope.ints z)
+          (and_from (has_place p kinds AsNumber r o) (in_bits p.scope.ints z) (shifted_place AsNumber o both.0) both.1))
+    ]
     | inr class ↦
         let both = and_parts (has_place p kinds AsClass r i) (is_class_number p z) class in
         or_right (int_eq z (pos 0) || (has_place p kinds AsNumber r o && in_bits p.scope.ints z)) (has_place p kinds AsClass r o && is_class_number p z)

@@ -1,8 +1,7 @@
 -- What the formulas of single variables say: that a variable is what an evaluation gives.
-use Rattle.std.proofs.Common.{◌≡◌, ℕ, ◌+◌, ◌<◌, ◌≤◌, Bool, true, false, not, ◌&&◌, Option, Some, None, inl, inr, refl, sym, ◌∙◌, ap, subst, arith}
-use Rattle.std.specs.Prelude.{◌==◌, ℤ, pos, nat_lt, if◌then◌else◌}
+use Rattle.std.proofs.Common.{◌≡◌, ℕ, ◌<◌, Bool, true, false, not, ◌&&◌, Some, None, inl, inr, refl, sym, ◌∙◌, ap}
+use Rattle.std.specs.Prelude.{◌==◌, ℤ, nat_lt, if◌then◌else◌}
 use Rattle.std.specs.Ordering.{int_eq}
-use Rattle.std.specs.Option.{option_map_or}
 use Rattle.std.proofs.lemmas.Bool.{cases_eq, eq-eqb, ne_eqb, eqb-true, false≢true, ltb-true, false_from_ne_true}
 use Rattle.std.proofs.lemmas.Bool.Decides.{Decides-int_eq}
 use Rattle.taco_unit.specs.declared.kind.Kind.{Kind}
@@ -15,11 +14,11 @@ use Rattle.heap_core.specs.Posed.{Posed}
 use Rattle.heap_core.specs.Outcomes.{in_bits, is_null, is_value, same, same_flag, flag, number}
 use Rattle.rel_core.specs.declared.relation.RelVar.{RelVar}
 use Rattle.rel_core.specs.Reading.{Reading, is_reference}
-use Rattle.rel_core.specs.Meaning.{ValueSet, has_object, fitting, with_both, joined, only_object}
+use Rattle.rel_core.specs.Meaning.{ValueSet, fitting, joined, only_object}
 use Rattle.rel_core.specs.Uses.{Kinds, AsSet, has_place, IsOf}
 use Rattle.rel_core.specs.Shown.{ShowsValue}
 use Rattle.std.proofs.lemmas.Bool.{and_parts}
-use Rattle.dyn_steps.specs.Meanings.{same_sets, same_variables, is_number, is_constant, is_through, is_cell}
+use Rattle.dyn_steps.specs.Meanings.{same_sets, same_variables, is_number, is_through, is_cell}
 use Rattle.dyn_steps.proofs.Numbers.{IsOneObject, one_object, one_joined, IsWithin, sets_alike, sets_same, through_is}
 
 -- a truth that says that a variable of this kind is what an evaluation gives

@@ -1,6 +1,6 @@
 -- Actions that set a variable to what an evaluation gives: from a formula that says so at the next index.
-use Rattle.std.proofs.Common.{◌≡◌, ◌⊎◌, ℕ, ◌+◌, ◌<◌, ◌≤◌, Bool, true, false, List, [], length, Option, Some, None, refl, sym, ◌∙◌, ap, subst, inl, inr, arith, get_or}
-use Rattle.std.specs.Prelude.{nat_lt, pos, slice_get, slice_set, option_map}
+use Rattle.std.proofs.Common.{◌≡◌, ◌⊎◌, ℕ, ◌+◌, ◌<◌, true, false, List, [], length, Option, Some, None, refl, sym, ◌∙◌, ap, subst, inl, inr, arith}
+use Rattle.std.specs.Prelude.{nat_lt, pos, slice_get, option_map}
 use Rattle.std.proofs.lemmas.Bool.{cases_eq}
 use Rattle.std.proofs.lemmas.Option.{slice_get_within}
 use Rattle.std.proofs.lemmas.List.{length-set, get_or-set_same, get_or-set_other}
@@ -22,7 +22,7 @@ use Rattle.rel_core.specs.declared.relation.What.TheVariants as what
 use Rattle.rel_core.specs.Reading.{Reading}
 use Rattle.rel_core.specs.Meaning.{holds}
 use Rattle.rel_core.specs.Uses.{IsOf, is_slot, is_sorted}
-use Rattle.rel_core.specs.Shown.{ShowsValue, ShowsHeap, IsFirst, slot_relation}
+use Rattle.rel_core.specs.Shown.{ShowsValue, IsFirst}
 use Rattle.rel_core.specs.States.{IsState, reading_of_state}
 use Rattle.rel_core.proofs.StartsShown.{states_are_shown}
 use Rattle.dyn_core.specs.declared.state.DynState.{DynState}
@@ -37,7 +37,7 @@ use Rattle.dyn_steps.specs.Points.{index_of, relation_at, indices_of, var_moved,
 use Rattle.dyn_steps.specs.Agreeing.{IsAlike, Agree}
 use Rattle.dyn_steps.specs.Looked.{Vars}
 use Rattle.dyn_steps.specs.Paths.{state_in, Shows, GoesOn, IsPath}
-use Rattle.dyn_steps.proofs.Moving.{alike_self, agree_less, agree_on, point_more, value_moves, heap_moves, ShowsVars, shows_both, vars_shown, shows_move, agree_at}
+use Rattle.dyn_steps.proofs.Moving.{alike_self, agree_less, value_moves, heap_moves, ShowsVars, shows_both, vars_shown, shows_move, agree_at}
 use Rattle.dyn_steps.proofs.Readings.{renewed, moved, renewed_of, moved_of, renewed_new, renewed_old, moved_alike}
 
 -- ## the reading of a state, at any index
@@ -156,10 +156,10 @@ var_shown_after p kinds before after m at n x k s v within there kept shown valu
           let one : k ≡ l = some_same (sym there ∙ ap (slice_get kinds) (sym same) ∙ is) in
           let now : v ≡ var_at (with_var s.vars x v) y = sym (ap (var_at (with_var s.vars x v)) same ∙ var_set s.vars x v) in
           let at_x : ShowsValue m l (record { what = what.Slot x; index = n }) 0 (var_at (with_var s.vars x v) y) = subst
-              (λ u. ShowsValue m l (record { what = what.Slot x; index = n }) 0 u) now (subst (λ j. ShowsValue m j (record { what = what.Slot x; index = n }) 0 v) one value) in
+          (λ u. ShowsValue m l (record { what = what.Slot x; index = n }) 0 u) now (subst (λ j. ShowsValue m j (record { what = what.Slot x; index = n }) 0 v) one value) in
           let index : n ≡ index_of (var_moved at x n) (what.Slot x) = sym (var_index at x n within) in
           let here : ShowsValue m l (relation_at (var_moved at x n) (what.Slot x)) 0 (var_at (with_var s.vars x v) y) = subst
-              (λ i. ShowsValue m l (record { what = what.Slot x; index = i }) 0 (var_at (with_var s.vars x v) y)) index at_x in
+          (λ i. ShowsValue m l (record { what = what.Slot x; index = i }) 0 (var_at (with_var s.vars x v) y)) index at_x in
           subst (λ z. ShowsValue m l (relation_at (var_moved at x n) (what.Slot z)) 0 (var_at (with_var s.vars x v) y)) (sym same) here
       | inr apart ↦
           let old : ShowsValue m l (relation_at at (what.Slot y)) 0 (var_at s.vars y) = vars_shown p kinds before m at s shown y l (kept y inside apart) is in
@@ -225,7 +225,7 @@ module _ (p : Posed) (kinds : List Kind) (before after : Vars) (x : ℕ) (k : Ki
     holds = λ u is agree.
         let near : Agree from.next reading u = agree_less from.next (from.next + 1) reading u (omega arith) agree in
         sets.full u s v.0 is has (shows_move p kinds before reading u from.at from.at s (is.objects ∙ sym of.objects)
-            (λ w looked. agree_at p kinds from.next from.at reading u point near w) shown_on) v.1
+        (λ w looked. agree_at p kinds from.next from.at reading u point near w) shown_on) v.1
         (value_moves reading new u new k 0 v.0 (is.objects ∙ sym of.objects) (agree new (omega arith)) value_on);
   }
     where

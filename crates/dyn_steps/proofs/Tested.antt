@@ -1,6 +1,6 @@
 -- The part of a test, parts with other sets of variables, and one relation at two indices.
-use Rattle.std.proofs.Common.{◌≡◌, ◌⊎◌, ℕ, ◌≤◌, Bool, true, false, ◌&&◌, List, Option, Some, None, inl, inr, refl, sym, ◌∙◌, ap, subst, arith, get_or}
-use Rattle.std.specs.Prelude.{◌==◌, ◌↔◌, nat_lt, pos, slice_get, is_some, option_map}
+use Rattle.std.proofs.Common.{◌≡◌, ℕ, Bool, true, false, ◌&&◌, List, Option, Some, None, inl, inr, refl, sym, ◌∙◌, ap, subst, arith, get_or}
+use Rattle.std.specs.Prelude.{◌==◌, nat_lt, pos, slice_get, is_some, option_map}
 use Rattle.std.specs.Option.{option_map_or}
 use Rattle.std.proofs.lemmas.Bool.{cases_eq, and_parts, and_from, eqb-true, eq-eqb, false≢true, false_from_ne_true}
 use Rattle.taco_unit.specs.declared.kind.Kind.{Kind}
@@ -16,23 +16,21 @@ use Rattle.rel_core.specs.declared.relation.What.TheVariants as what
 use Rattle.rel_core.specs.Reading.{Reading}
 use Rattle.rel_core.specs.Meaning.{is_changed, holds}
 use Rattle.rel_core.specs.Uses.{Kinds, Use, AsSet, AsNumber, AsFlag, AsClass, same_use, use_of_kind, use_of, has_use, can_change, is_slot, has_place, is_variable, is_sorted, IsOf}
-use Rattle.rel_core.specs.Shown.{ShowsValue}
 use Rattle.dyn_core.specs.declared.state.DynState.{DynState}
 use Rattle.dyn_core.specs.States.{var_at}
-use Rattle.dyn_core.specs.Kinds.{is_var, HasKinds}
 use Rattle.dyn_core.proofs.Fitting.{var_is}
 use Rattle.dyn_steps.specs.declared.part.Front.{Front}
 use Rattle.dyn_steps.specs.declared.part.Part.{Part}
 use Rattle.dyn_steps.specs.Points.{relation_at, slot, IsPoint}
-use Rattle.dyn_steps.specs.Agreeing.{IsAlike, Agree}
+use Rattle.dyn_steps.specs.Agreeing.{IsAlike}
 use Rattle.dyn_steps.specs.Looked.{Vars, with_one, kind_at}
 use Rattle.dyn_steps.specs.Meanings.{same_variables}
-use Rattle.dyn_steps.specs.Paths.{Shows, Relation, Passes, GoesOn, IsPath, IsTest, IsSameness}
-use Rattle.dyn_steps.proofs.Moving.{alike_self, agree_at, ShowsVars, shows_both, vars_shown, shows_move}
+use Rattle.dyn_steps.specs.Paths.{Shows, Relation, IsPath, IsTest, IsSameness}
+use Rattle.dyn_steps.proofs.Moving.{alike_self, agree_at, shows_both, vars_shown, shows_move}
 use Rattle.dyn_steps.proofs.Saying.{int_same, same_int, flag_same, same_flags, refs_within}
 use Rattle.dyn_steps.proofs.Numbers.{sets_alike, sets_same}
 use Rattle.dyn_steps.proofs.Acts.{one_in, more_in, use_self as same_self, variable_used, kind_known}
-use Rattle.dyn_steps.proofs.Places.{IsAlikeAt, place_at, all_places, no_refs, no_flag, no_number, not_used, changed_alike, alike_changed}
+use Rattle.dyn_steps.proofs.Places.{IsAlikeAt, all_places, no_refs, no_flag, no_number, not_used, changed_alike, alike_changed}
 
 -- ## sets of variables
 
@@ -217,9 +215,10 @@ pub spread_sameness :
     → IsSameness p kinds w new old f
 spread_sameness p kinds w new old f meaning sorted = record {
   sorted = sorted;
-  meaning = λ m of.
-      (λ true_here. changed_alike p (slice_get kinds) m of (record { what = w; index = new }) (record { what = w; index = old }) (sym (meaning m) ∙ true_here),
-      λ alike. meaning m ∙ alike_changed p (slice_get kinds) m of (record { what = w; index = new }) (record { what = w; index = old }) alike);
+  meaning = λ m of. (
+    λ true_here. changed_alike p (slice_get kinds) m of (record { what = w; index = new }) (record { what = w; index = old }) (sym (meaning m) ∙ true_here),
+    λ alike. meaning m ∙ alike_changed p (slice_get kinds) m of (record { what = w; index = new }) (record { what = w; index = old }) alike,
+  );
 }
 
 -- of a variable, by what was promised of the formula

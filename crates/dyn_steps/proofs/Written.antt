@@ -1,24 +1,22 @@
 -- The part of a write.
-use Rattle.std.proofs.Common.{◌≡◌, ◌⊎◌, ℕ, ◌+◌, ◌<◌, ◌≤◌, Bool, true, false, not, ◌&&◌, List, length, Option, Some, None, inl, inr, refl, sym, ◌∙◌, ap, subst, arith, get_or}
-use Rattle.std.specs.Prelude.{◌==◌, nat_lt, pos, if◌then◌else◌, slice_get, slice_set, option_map, option_and_then}
+use Rattle.std.proofs.Common.{◌≡◌, ◌⊎◌, ℕ, ◌+◌, ◌<◌, ◌≤◌, Bool, true, false, not, ◌&&◌, List, length, Option, Some, None, inl, inr, refl, sym, ◌∙◌, ap, subst, arith}
+use Rattle.std.specs.Prelude.{◌==◌, nat_lt, pos, if◌then◌else◌, slice_get, option_map}
 use Rattle.std.specs.Option.{option_map_or}
-use Rattle.std.proofs.lemmas.Bool.{cases_eq, eq-eqb, ne_eqb, eqb-true, and_parts, and_from, false≢true, false_from_ne_true, lt-ltb}
+use Rattle.std.proofs.lemmas.Bool.{cases_eq, eq-eqb, ne_eqb, eqb-true, and_parts, and_from, false≢true, false_from_ne_true}
 use Rattle.std.proofs.lemmas.Option.{slice_get_within}
 use Rattle.std.proofs.lemmas.List.{length-set, get_or-set_same, get_or-set_other}
 use Rattle.taco_unit.specs.declared.kind.Kind.{Kind}
 use Rattle.taco_unit.specs.declared.kind.Kind.TheVariants as kind
-use Rattle.taco_unit.specs.declared.unit.ClassDef.{ClassDef}
 use Rattle.taco_unit.specs.declared.unit.FieldDef.{FieldDef}
 use Rattle.taco_unit.specs.Kinds.{is_class_kind}
 use Rattle.taco_unit.specs.Well.{IsWell}
 use Rattle.heap_core.specs.declared.value.Value.{Value}
 use Rattle.heap_core.specs.declared.value.Value.TheVariants.{Null, Obj, Num, Flag}
 use Rattle.heap_core.specs.declared.value.Object.{Object}
-use Rattle.heap_core.specs.declared.value.Seen.{Seen}
-use Rattle.heap_core.specs.declared.value.Seen.TheVariants.{Is, Bad, Out}
+use Rattle.heap_core.specs.declared.value.Seen.TheVariants.{Is}
 use Rattle.heap_core.specs.Posed.{Posed, InRange}
-use Rattle.heap_core.specs.Outcomes.{gives, is_value, value_in}
-use Rattle.heap_core.specs.Heap.{Heap, is_of, class_at, place_of, cell_of, field, put, put_cell}
+use Rattle.heap_core.specs.Outcomes.{gives, is_value}
+use Rattle.heap_core.specs.Heap.{Heap, is_of, field, put}
 use Rattle.heap_core.specs.Start.{has_kind}
 use Rattle.heap_core.proofs.FieldLaws.{none_some, some_same, IsPut, put_is, put_length, put_class, put_field}
 use Rattle.rel_core.specs.declared.formula.Formula.{Formula}
@@ -27,24 +25,23 @@ use Rattle.rel_core.specs.declared.relation.What.{What}
 use Rattle.rel_core.specs.declared.relation.What.TheVariants as what
 use Rattle.rel_core.specs.Reading.{Reading}
 use Rattle.rel_core.specs.Meaning.{has_object, is_changed, holds}
-use Rattle.rel_core.specs.Uses.{use_of_kind, use_of, is_sorted, IsOf}
+use Rattle.rel_core.specs.Uses.{use_of_kind, is_sorted, IsOf}
 use Rattle.rel_core.specs.Shown.{ShowsValue, ShowsCell, ShowsHeap, field_relation}
 use Rattle.dyn_core.specs.declared.prog.Act.TheVariants.{Write}
 use Rattle.dyn_core.specs.declared.state.DynState.{DynState}
 use Rattle.dyn_core.specs.States.{var_at}
-use Rattle.dyn_core.specs.Actions.{put_through, acted}
+use Rattle.dyn_core.specs.Actions.{put_through}
 use Rattle.dyn_core.specs.Kinds.{HasKinds}
-use Rattle.dyn_core.proofs.Fitting.{IsFieldOf, field_is}
+use Rattle.dyn_core.proofs.Fitting.{field_is}
 use Rattle.dyn_core.proofs.Kept.{act_keeps_kinds}
 use Rattle.dyn_steps.specs.declared.point.Point.{Point}
 use Rattle.dyn_steps.specs.declared.part.Front.{Front}
-use Rattle.dyn_steps.specs.declared.part.Part.{Part}
 use Rattle.dyn_steps.specs.Points.{index_of, relation_at, indices_of, field_moved, IsPoint}
 use Rattle.dyn_steps.specs.Agreeing.{IsAlike, Agree}
 use Rattle.dyn_steps.specs.Looked.{Vars, with_one, looked_at}
 use Rattle.dyn_steps.specs.Meanings.{is_through}
 use Rattle.dyn_steps.specs.Paths.{Shows, Acts, GoesOn, IsPath, IsStep, field_set}
-use Rattle.dyn_steps.proofs.Moving.{agree_less, agree_at, value_moves, ShowsVars, shows_both, vars_shown, shows_move}
+use Rattle.dyn_steps.proofs.Moving.{agree_less, agree_at, shows_both, vars_shown, shows_move}
 use Rattle.dyn_steps.proofs.Readings.{renewed, moved, spliced, renewed_of, moved_of, spliced_of, renewed_new, renewed_old, moved_alike}
 use Rattle.dyn_steps.proofs.Puts.{is_of_class, put_works}
 use Rattle.dyn_steps.proofs.Numbers.{through_is}
@@ -155,7 +152,7 @@ module _ (p : Posed) (kinds : List Kind) (from : Front) (g : ℕ) (d : FieldDef)
         shown =
             let one : ShowsValue m d.kind new o v = place_moves m given 0 m new o d.kind v refl here value in
             subst (λ r. ShowsValue m e.kind r q v) (sym (moved_new h same))
-                (subst (λ i. ShowsValue m e.kind new i v) (sym place) (subst (λ (z : FieldDef). ShowsValue m z.kind new o v) (one_field h e same is) one));
+            (subst (λ i. ShowsValue m e.kind new i v) (sym place) (subst (λ (z : FieldDef). ShowsValue m z.kind new o v) (one_field h e same is) one));
       }
       cell_shown h e q is of (inl same) (inr other) =
           let cell = shown.cells h e q is of in
@@ -186,7 +183,7 @@ module _ (p : Posed) (kinds : List Kind) (from : Front) (g : ℕ) (d : FieldDef)
 
   module _ (x y : ℕ) (f : Formula) (well : IsWell p.unit) (range : InRange p) (object : slice_get kinds x ≡ Some (kind.Ref d.class)) (value : slice_get kinds y ≡ Some d.kind)
       (meaning : (m : Reading) → holds f m ≡ (is_through m (relation_at from.at (what.Slot x)) && is_changed m new (m.refs (relation_at from.at (what.Slot x)) 0)
-          (relation_at from.at (what.Slot y)) old))
+      (relation_at from.at (what.Slot y)) old))
       (sorted : is_sorted p (slice_get kinds) f ≡ true) (after : Vars)
       (keeps : (s t : DynState) → HasKinds p kinds s → Acts p (Write x g y) s t → HasKinds p kinds t) where
     abbrev Of : Reading → Type 0
@@ -247,10 +244,13 @@ module _ (p : Posed) (kinds : List Kind) (from : Front) (g : ℕ) (d : FieldDef)
         let t : DynState = record s { objects = done.0 } in
         let w : Writes s t = record { place = o; heap = done.0; is_object = is; put = put_is p.unit.classes s.objects g o (var_at s.vars y) done.0 done.1; ends = refl } in
         let acts : Acts p (Write x g y) s t = ap (λ v. option_map (λ h. record s { objects = h }) (put_through p.unit.classes s.objects g v (var_at s.vars y))) is
-            ∙ ap (option_map (λ h. record s { objects = h })) done.1 in
-        let here = changed_here p (slice_get kinds) m of new (m.refs through 0) given old changed o (low m s o is shown) (alone m s o is shown o ∙ eq-eqb o o refl) in
-        (t, acts, written_shown m s t w shown here
-            (λ q apart. changed_apart p (slice_get kinds) m of new (m.refs through 0) given old changed q (alone m s o is shown q ∙ ne_eqb o q (λ same. apart (sym same)))))
+        ∙ ap (option_map (λ h. record s { objects = h })) done.1 in
+        let here = changed_here p (slice_get kinds) m of new (m.refs through 0) given old changed o (low m s o is shown) (alone m s o is shown o ∙ eq-eqb o o refl) in (
+          t,
+          acts,
+          written_shown m s t w shown here
+              (λ q apart. changed_apart p (slice_get kinds) m of new (m.refs through 0) given old changed q (alone m s o is shown q ∙ ne_eqb o q (λ same. apart (sym same)))),
+        )
     sound_at m s (Num z) of has shown is open_way changed = absurd (false≢true (ap (has_kind p.scope.ints s.objects (kind.Ref d.class)) (sym is) ∙ has.vars x (kind.Ref d.class) object))
     sound_at m s (Flag b) of has shown is open_way changed = absurd (false≢true (ap (has_kind p.scope.ints s.objects (kind.Ref d.class)) (sym is) ∙ has.vars x (kind.Ref d.class) object))
 
@@ -292,18 +292,18 @@ module _ (p : Posed) (kinds : List Kind) (from : Front) (g : ℕ) (d : FieldDef)
       holds = λ u is agree.
           let near : Agree from.next (reading_at m t w.place) u = agree_less from.next (from.next + 1) (reading_at m t w.place) u (omega arith) agree in
           let shown_u : Before u s = shows_move p kinds before (reading_at m t w.place) u from.at from.at s (is.objects ∙ sym reading_of.objects)
-              (λ z looked. agree_at p kinds from.next from.at (reading_at m t w.place) u point near z) shown_on in
+          (λ z looked. agree_at p kinds from.next from.at (reading_at m t w.place) u point near z) shown_on in
           let new_u : IsAlike (reading_at m t w.place) new u new = agree new (omega arith) in
           let null : u.refs through 0 Null ≡ false = (object_shown u s shown_u).1 Null ∙ ap (λ v. is_value v Null) w.is_object in
           meaning u ∙ and_from (is_through u through) (is_changed u new (u.refs through 0) given old) (through_is u through ∙ ap not null)
           (changed_from p (slice_get kinds) u is new (u.refs through 0) given old
           (λ q below one.
-              let same : w.place ≡ q = eqb-true w.place q (sym (alone u s w.place w.is_object shown_u q) ∙ one) in
-              subst (λ i. IsAlikeAt u given 0 u new i) same
-                  (place_on (place_back (place_at (agree_at p kinds from.next from.at (reading_at m t w.place) u point near (what.Slot y)) 0)) (place_on here_on (place_at new_u w.place))))
+          let same : w.place ≡ q = eqb-true w.place q (sym (alone u s w.place w.is_object shown_u q) ∙ one) in
+          subst (λ i. IsAlikeAt u given 0 u new i) same
+          (place_on (place_back (place_at (agree_at p kinds from.next from.at (reading_at m t w.place) u point near (what.Slot y)) 0)) (place_on here_on (place_at new_u w.place))))
           (λ q lacks.
-              let other : q ≡ w.place → ⊥ = λ same. false≢true (sym lacks ∙ alone u s w.place w.is_object shown_u q ∙ eq-eqb w.place q (sym same)) in
-              place_on (place_back (place_at (agree_at p kinds from.next from.at (reading_at m t w.place) u point near (what.Field g)) q)) (place_on (apart_on q other) (place_at new_u q))));
+          let other : q ≡ w.place → ⊥ = λ same. false≢true (sym lacks ∙ alone u s w.place w.is_object shown_u q ∙ eq-eqb w.place q (sym same)) in
+          place_on (place_back (place_at (agree_at p kinds from.next from.at (reading_at m t w.place) u point near (what.Field g)) q)) (place_on (apart_on q other) (place_at new_u q))));
     }
       where
         w : Writes s t
@@ -336,19 +336,19 @@ module _ (p : Posed) (kinds : List Kind) (from : Front) (g : ℕ) (d : FieldDef)
         there_object =
             let before_write : is_of s.objects d.class w.place ≡ true = ap (has_kind p.scope.ints s.objects (kind.Ref d.class)) (sym w.is_object) ∙ has.vars x (kind.Ref d.class) object in
             let same : is_of w.heap d.class w.place ≡ is_of s.objects d.class w.place =
-                is_of_class w.heap d.class w.place ∙ ap (λ k. option_map_or (λ l. l == d.class) k false) (put_class w.put w.place) ∙ sym (is_of_class s.objects d.class w.place) in
+            is_of_class w.heap d.class w.place ∙ ap (λ k. option_map_or (λ l. l == d.class) k false) (put_class w.put w.place) ∙ sym (is_of_class s.objects d.class w.place) in
             ap (λ (z : DynState). is_of z.objects d.class w.place) (sym w.ends) ∙ same ∙ before_write
 
         gives_value : field p.unit.classes t.objects g (Obj w.place) ≡ Is (var_at s.vars y)
         gives_value =
             let both : (w.place == w.place && g == g) ≡ true = and_from (w.place == w.place) (g == g) (eq-eqb w.place w.place refl) (eq-eqb g g refl) in
             ap (λ (z : DynState). field p.unit.classes z.objects g (Obj w.place)) (sym w.ends) ∙ put_field w.put g w.place
-                ∙ ap (λ b. if b then Is (var_at s.vars y) else field p.unit.classes s.objects g (Obj w.place)) both
+            ∙ ap (λ b. if b then Is (var_at s.vars y) else field p.unit.classes s.objects g (Obj w.place)) both
 
         here_on : IsAlikeAt (reading_at m t w.place) given 0 (reading_at m t w.place) new w.place
         here_on =
             let at_state : ShowsValue (state_reading p kinds t) d.kind new w.place (var_at s.vars y) = state_cell p kinds t well range has_after g d w.place from.next
-                (var_at s.vars y) there there_object gives_value in
+            (var_at s.vars y) there there_object gives_value in
             let at_chosen = place_on (spliced_first (at_place w.place) (state_reading p kinds t) (moved (index_of from.at) m) new w.place (eq-eqb w.place w.place refl)) (place_at new_on w.place) in
             shown_alike p (slice_get kinds) (reading_at m t w.place) (reading_at m t w.place) reading_of reading_of d.kind given 0 new w.place (var_at s.vars y)
             (ap (option_map use_of_kind) value) (ap (option_map (λ (e : FieldDef). use_of_kind e.kind)) there)
@@ -374,7 +374,7 @@ pub write_step :
     → InRange p
     → ((d : FieldDef) → slice_get p.unit.fields g ≡ Some d → slice_get kinds x ≡ Some (kind.Ref d.class) → slice_get kinds y ≡ Some d.kind → is_sorted p (slice_get kinds) f ≡ true)
     → ((m : Reading) → holds f m ≡ (is_through m (relation_at from.at (what.Slot x)) && is_changed m (record { what = what.Field g; index = from.next })
-        (m.refs (relation_at from.at (what.Slot x)) 0) (relation_at from.at (what.Slot y)) (relation_at from.at (what.Field g))))
+    (m.refs (relation_at from.at (what.Slot x)) 0) (relation_at from.at (what.Slot y)) (relation_at from.at (what.Field g))))
     → IsStep p kinds (Write x g y) from (field_set from g f)
 write_step p kinds from f x g y well range sorted meaning fits point after =
     let d = field_is p.unit kinds g x y fits in

@@ -12,12 +12,7 @@ use no_memory::NoMemory;
 use std::alloc::Global;
 
 /// The part of an action. Constant in time, but for a new object (`make`).
-pub fn act(
-    alloc: Global,
-    basis: Basis<'_>,
-    from: Front,
-    act: Act,
-) -> Result<Part, NoMemory>
+pub fn act(alloc: Global, basis: Basis<'_>, from: Front, act: Act) -> Result<Part, NoMemory>
     ensures { IfOk result (IsStep basis.entry.problem.now basis.entry.kinds.now act from) }
 {
     match act {

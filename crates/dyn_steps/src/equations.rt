@@ -41,11 +41,7 @@ fn same_flags(alloc: Global, left: RelVar, right: RelVar) -> Result<Boxed<Formul
 }
 
 /// Two variables for references are the same.
-fn same_references(
-    alloc: Global,
-    left: RelVar,
-    right: RelVar,
-) -> Result<Boxed<Formula>, NoMemory>
+fn same_references(alloc: Global, left: RelVar, right: RelVar) -> Result<Boxed<Formula>, NoMemory>
     ensures meaning { IfOk result (λ r. (m : Reading) → holds r m ≡ same_sets m (m.refs left 0) (m.refs right 0)) }
     ensures sorted { IfOk result (λ r. (p : Posed) (kinds : Kinds) → IsTrue (is_variable p kinds AsSet left) → IsTrue (is_variable p kinds AsSet right) → IsTrue (is_sorted p kinds r)) }
 {
@@ -246,10 +242,7 @@ pub(crate) fn is_order(
 }
 
 /// A variable is not null.
-pub(crate) fn is_not_null(
-    alloc: Global,
-    variable: RelVar,
-) -> Result<Boxed<Formula>, NoMemory>
+pub(crate) fn is_not_null(alloc: Global, variable: RelVar) -> Result<Boxed<Formula>, NoMemory>
     ensures meaning { IfOk result (λ r. (m : Reading) → holds r m ≡ is_through m variable) }
     ensures sorted { IfOk result (λ r. (p : Posed) (kinds : Kinds) → IsTrue (is_variable p kinds AsSet variable) → IsTrue (is_sorted p kinds r)) }
 {
@@ -294,11 +287,7 @@ fn is_flag_of(
 }
 
 /// The references of a field at the object of a variable.
-fn references_at(
-    alloc: Global,
-    object: RelVar,
-    field: RelVar,
-) -> Result<Boxed<RelExpr>, NoMemory>
+fn references_at(alloc: Global, object: RelVar, field: RelVar) -> Result<Boxed<RelExpr>, NoMemory>
     ensures meaning { IfOk result (λ e. (m : Reading) → set_of e m ≡ joined m (m.refs object 0) field) }
     ensures sorted { IfOk result (λ e. (p : Posed) (kinds : Kinds) → IsTrue (is_variable p kinds AsSet object) → IsTrue (is_spread p kinds AsSet field) → IsTrue (is_sorted_set p kinds e)) }
 {

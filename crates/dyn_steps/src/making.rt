@@ -323,7 +323,14 @@ pub fn make(
 {
     match class_of(basis.problem, class) {
         Some(declared) => {
-            let part = make_of(alloc, basis, from, target, class, declared.fields.as_slice())?;
+            let part = make_of(
+                alloc,
+                basis,
+                from,
+                target,
+                class,
+                declared.fields.as_slice(),
+            )?;
             Ok(part)
         }
         None => {

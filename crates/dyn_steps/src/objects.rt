@@ -25,7 +25,11 @@ pub(crate) fn is_there(alloc: Global, live: RelVar, object: u8) -> Result<Boxed<
 }
 
 /// The flag of a relation at an object is false.
-pub(crate) fn is_not_there(alloc: Global, live: RelVar, object: u8) -> Result<Boxed<Formula>, NoMemory>
+pub(crate) fn is_not_there(
+    alloc: Global,
+    live: RelVar,
+    object: u8,
+) -> Result<Boxed<Formula>, NoMemory>
     ensures meaning { IfOk result (λ r. (m : Reading) → holds r m ≡ not (there m live object)) }
     ensures sorted { IfOk result (λ r. (p : Posed) (kinds : Kinds) → IsTrue (nat_lt object p.scope.objects) → IsTrue (is_spread p kinds AsFlag live) → IsTrue (is_sorted p kinds r)) }
 {
@@ -60,11 +64,7 @@ fn is_next(alloc: Global, live: RelVar, object: u8) -> Result<Boxed<Formula>, No
 }
 
 /// A variable is this object.
-fn is_the_object(
-    alloc: Global,
-    variable: RelVar,
-    object: u8,
-) -> Result<Boxed<Formula>, NoMemory>
+fn is_the_object(alloc: Global, variable: RelVar, object: u8) -> Result<Boxed<Formula>, NoMemory>
     ensures meaning { IfOk result (λ r. (m : Reading) → holds r m ≡ same_sets m (m.refs variable 0) (is_object object)) }
     ensures sorted { IfOk result (λ r. (p : Posed) (kinds : Kinds) → IsTrue (nat_lt object p.scope.objects) → IsTrue (is_variable p kinds AsSet variable) → IsTrue (is_sorted p kinds r)) }
 {

@@ -24,7 +24,10 @@ use taco_unit::Kind;
 pub(crate) fn kind_of(kinds: &[Kind], variable: u16) -> Kind
     ensures { result ≡ kind_at kinds.now variable }
 {
-    kinds.get(usize::from(variable)).copied().unwrap_or(Kind::Int)
+    kinds
+        .get(usize::from(variable))
+        .copied()
+        .unwrap_or(Kind::Int)
 }
 
 /// The index behind one, where there is one.

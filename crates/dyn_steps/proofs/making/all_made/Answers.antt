@@ -11,8 +11,8 @@ pub returns-clause-meaning : goal.returns-clause-meaning
 returns-clause-meaning c = λ m.
     c.in_ok-all.ensures.meaning m
     ∙ both_of _ _ _ _
-        (c.in_ok-heap.ensures.meaning m ∙ both_of _ _ _ _ (c.in_ok-object.ensures.meaning m) (c.in_ok-classes.ensures.meaning m))
-        (c.in_ok-cells.ensures.meaning m)
+    (c.in_ok-heap.ensures.meaning m ∙ both_of _ _ _ _ (c.in_ok-object.ensures.meaning m) (c.in_ok-classes.ensures.meaning m))
+    (c.in_ok-cells.ensures.meaning m)
     ∙ made_of m c.args.basis.problem.now c.args.from.now.at c.args.from.now.next c.args.target c.args.class c.args.fields.now _ _ c.slot-variable.ensures c.fields_of-declared.ensures
 
 pub returns-clause-sorted : goal.returns-clause-sorted

@@ -10,8 +10,8 @@ pub returns-clause-meaning : goal.returns-clause-meaning
 returns-clause-meaning c = λ m.
     c.in_ok-both.ensures.meaning m
     ∙ both_of _ _ _ _
-        (c.in_ok-first.ensures.meaning m ∙ first_of m _ _ _ _ c.kind_of_field-kind.ensures c.in_ok-given.ensures)
-        (c.in_ok-grown.ensures.meaning m ∙ ap (λ (r : RelVar). is_grown m c.args.variable (Field c.args.field) c.args.from.now.next r.index) c.field-old.ensures)
+    (c.in_ok-first.ensures.meaning m ∙ first_of m _ _ _ _ c.kind_of_field-kind.ensures c.in_ok-given.ensures)
+    (c.in_ok-grown.ensures.meaning m ∙ ap (λ (r : RelVar). is_grown m c.args.variable (Field c.args.field) c.args.from.now.next r.index) c.field-old.ensures)
 
 pub returns-clause-sorted : goal.returns-clause-sorted
 returns-clause-sorted c = λ p kinds same known below variable.

@@ -12,4 +12,4 @@ returns-clause-meaning c = λ m. c.in_ok-same.ensures.meaning m
 
 pub returns-clause-sorted : goal.returns-clause-sorted
 returns-clause-sorted c = λ p kinds below live. c.in_ok-same.ensures.sorted p kinds (c.in_ok-number.ensures.sorted p kinds (c.in_ok-place.ensures.sorted p kinds below) live)
-    (c.in_ok-zero.ensures.sorted p kinds )
+    (c.in_ok-zero.ensures.sorted p kinds)

@@ -9,11 +9,11 @@ pub returns-clause-meaning : goal.returns-clause-meaning
 returns-clause-meaning c = λ m.
     c.in_ok-all.ensures.meaning m
     ∙ both_of _ _ _ _
-        (c.in_ok-front.ensures.meaning m
-        ∙ both_of _ _ _ _
-            (c.in_ok-room.ensures.meaning m ∙ room_of m _ _ _ _ c.live-live.ensures c.objects_of-objects.ensures)
-            (c.in_ok-placed.ensures.meaning m ∙ placed_of m c.args.variable _ _ _ _ c.live-live.ensures c.objects_of-objects.ensures))
-        (c.in_ok-lives.ensures.meaning m)
+    (c.in_ok-front.ensures.meaning m
+    ∙ both_of _ _ _ _
+    (c.in_ok-room.ensures.meaning m ∙ room_of m _ _ _ _ c.live-live.ensures c.objects_of-objects.ensures)
+    (c.in_ok-placed.ensures.meaning m ∙ placed_of m c.args.variable _ _ _ _ c.live-live.ensures c.objects_of-objects.ensures))
+    (c.in_ok-lives.ensures.meaning m)
 
 pub returns-clause-sorted : goal.returns-clause-sorted
 returns-clause-sorted c = λ kinds variable.

@@ -8,4 +8,4 @@ pub returns : goal.returns
 returns c =
     ap (λ i. record { what = Slot c.args.variable; index = i })
     (c.unwrap_or-index.ensures ∙ ap (λ o. unwrap_or o 0) (c.copied.ensures ∙ c.get.ensures.value) ∙ ap (λ i. unwrap_or (slice_get c.args.self.now.vars i) 0) c.from.ensures
-        ∙ unwrap_or-slice_get c.args.self.now.vars c.args.variable 0)
+    ∙ unwrap_or-slice_get c.args.self.now.vars c.args.variable 0)
