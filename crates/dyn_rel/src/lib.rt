@@ -1,0 +1,4 @@
+//! Path formulas of whole programs: sequences, branches that are joined, and programs without iterations.
+#![tactic(auto)]
+
+mod joining;
