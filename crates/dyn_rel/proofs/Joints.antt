@@ -177,6 +177,30 @@ point_equates p kinds vars at joint f fields slots live class few also of_fields
           | inr high ↦ past m (what.Slot x) (get_or_past at.vars x 0 high) (get_or_past joint.vars x 0 (omega (arith, high, also)))
         ]
 
+-- the same, by the lists that were handed on
+pub point_said :
+    (p : Posed) (kinds : List Kind) (vars : Vars) (at joint : Point)
+    → IsOver p kinds at joint
+    → (f fields slots live class : Formula) (to_fields from_fields to_slots from_slots : List ℕ)
+    → to_fields ≡ joint.fields → from_fields ≡ at.fields → to_slots ≡ joint.vars → from_slots ≡ at.vars
+    → (length from_fields ≡ length p.unit.fields → SaysSame p kinds (λ x. what.Field x) to_fields from_fields (length from_fields) fields)
+    → (length from_slots ≡ length kinds → SaysSame p kinds (λ x. what.Slot x) to_slots from_slots (length from_slots) slots)
+    → IsSameness p kinds what.Live joint.live at.live live
+    → IsSameness p kinds what.ClassOf joint.live at.live class
+    → ((m : Reading) → holds f m ≡ (holds fields m && holds slots m && (holds live m && holds class m)))
+    → (is_sorted p (slice_get kinds) fields ≡ true → is_sorted p (slice_get kinds) slots ≡ true → is_sorted p (slice_get kinds) live ≡ true → is_sorted p (slice_get kinds) class ≡ true → is_sorted p (slice_get kinds) f ≡ true)
+    → Equates p kinds vars at joint f
+point_said p kinds vars at joint over f fields slots live class to_fields from_fields to_slots from_slots tf ff ts fs of_fields of_slots of_live of_class meaning sorted =
+    point_equates p kinds vars at joint f fields slots live class over.joint_fields over.joint_vars said also of_live of_class meaning (sorted said.sorted also.sorted of_live.sorted of_class.sorted)
+  where
+    said : SaysSame p kinds (λ x. what.Field x) joint.fields at.fields (length at.fields) fields
+    said = subst (λ xs. SaysSame p kinds (λ x. what.Field x) xs at.fields (length at.fields) fields) tf
+        (subst (λ xs. SaysSame p kinds (λ x. what.Field x) to_fields xs (length xs) fields) ff (of_fields (ap length ff ∙ over.fields)))
+
+    also : SaysSame p kinds (λ x. what.Slot x) joint.vars at.vars (length at.vars) slots
+    also = subst (λ xs. SaysSame p kinds (λ x. what.Slot x) xs at.vars (length at.vars) slots) ts
+        (subst (λ xs. SaysSame p kinds (λ x. what.Slot x) to_slots xs (length xs) slots) fs (of_slots (ap length fs ∙ over.vars)))
+
 -- ## two branches
 
 pub are_joined :

@@ -28,6 +28,9 @@ pub record SameBelow (p : Posed) (kinds : List Kind) (w : ℕ → What) (to from
 pub same_none : (p : Posed) (kinds : List Kind) (w : ℕ → What) (to from : List ℕ) → SameBelow p kinds w to from 0 []
 same_none p kinds w to from = record { sorted = refl; alike = λ m of all x low. absurd (omega (arith, low)); back = λ m of each. refl }
 
+pub same_empty : (p : Posed) (kinds : List Kind) (w : ℕ → What) (to from : List ℕ) (xs : List Formula) → xs ≡ [] → SameBelow p kinds w to from 0 xs
+same_empty p kinds w to from xs is = subst (λ ys. SameBelow p kinds w to from 0 ys) (sym is) (same_none p kinds w to from)
+
 pub same_more :
     (p : Posed) (kinds : List Kind) (w : ℕ → What) (to from : List ℕ) (n : ℕ) (xs ys : List Formula) (a f : Formula) (v : What) (new old : ℕ)
     → v ≡ w n → new ≡ get_or to n 0 → old ≡ get_or from n 0 → a ≡ f → ys ≡ xs ++ a ∷ []
@@ -71,9 +74,11 @@ pub same_said :
     (p : Posed) (kinds : List Kind) (w : ℕ → What) (to from : List ℕ) (n : ℕ) (parts : List Formula) (f : Formula)
     → ((m : Reading) → holds f m ≡ list_all (λ a. holds a m) parts)
     → (list_all (is_sorted p (slice_get kinds)) parts ≡ true → is_sorted p (slice_get kinds) f ≡ true)
+    → (k : ℕ)
+    → n ≡ k
     → SameBelow p kinds w to from n parts
-    → SaysSame p kinds w to from n f
-same_said p kinds w to from n parts f meaning sorted same = record {
+    → SaysSame p kinds w to from k f
+same_said p kinds w to from n parts f meaning sorted k is same = subst (λ i. SaysSame p kinds w to from i f) is (record {
   sorted = sorted same.sorted;
-  meaning = λ m of. (λ is. same.alike m of (sym (meaning m) ∙ is), λ each. meaning m ∙ same.back m of each);
-}
+  meaning = λ m of. (λ holds_here. same.alike m of (sym (meaning m) ∙ holds_here), λ each. meaning m ∙ same.back m of each);
+})
