@@ -57,18 +57,18 @@ merged_past n is js x high = get_or_past (all_merged n is js) x 0 (let same = me
 list_first : (n : ℕ) (is js : List ℕ) (x : ℕ) → (get_or (all_merged n is js) x 0 ≡ get_or is x 0) ⊎ (get_or (all_merged n is js) x 0 ≡ n)
 list_first n is js x = elim (less_or_not x (length is)) [
   | inl low ↦ elim (merged_first n (get_or is x 0) (get_or js x 0)) [
-      | inl one ↦ inl (merged_at n is js x low ∙ one)
-      | inr new ↦ inr (merged_at n is js x low ∙ new)
-    ]
+    | inl one ↦ inl (merged_at n is js x low ∙ one)
+    | inr new ↦ inr (merged_at n is js x low ∙ new)
+  ]
   | inr high ↦ inl (merged_past n is js x high ∙ sym (get_or_past is x 0 high))
 ]
 
 list_second : (n : ℕ) (is js : List ℕ) → length is ≡ length js → (x : ℕ) → (get_or (all_merged n is js) x 0 ≡ get_or js x 0) ⊎ (get_or (all_merged n is js) x 0 ≡ n)
 list_second n is js same x = elim (less_or_not x (length is)) [
   | inl low ↦ elim (merged_second n (get_or is x 0) (get_or js x 0)) [
-      | inl one ↦ inl (merged_at n is js x low ∙ one)
-      | inr new ↦ inr (merged_at n is js x low ∙ new)
-    ]
+    | inl one ↦ inl (merged_at n is js x low ∙ one)
+    | inr new ↦ inr (merged_at n is js x low ∙ new)
+  ]
   | inr high ↦ inl (merged_past n is js x high ∙ sym (get_or_past js x 0 (omega (arith, high, same))))
 ]
 

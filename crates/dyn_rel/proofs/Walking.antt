@@ -1,8 +1,11 @@
 -- Whole programs, by their forms: sequences grow by a part, choices by a branch.
-use Rattle.std.proofs.Common.{◌≡◌, ◌⊎◌, ℕ, zero, suc, ◌<◌, true, ◌&&◌, List, [], ◌∷◌, ◌++◌, length, inl, inr, refl, sym, ◌∙◌, ap, subst, arith, get_or}
-use Rattle.std.specs.Prelude.{Bool, slice_get, Any}
+use Rattle.std.proofs.Common.{◌≡◌, ◌⊎◌, ℕ, zero, suc, ◌+◌, ◌<◌, ◌≤◌, true, ◌&&◌, List, [], ◌∷◌, ◌++◌, length, take, Some, inl, inr, refl, sym, ◌∙◌, ap, subst, arith, get_or}
+use Rattle.std.specs.Prelude.{Bool, slice_get, replicate, Any}
 use Rattle.std.specs.List.{list_all}
-use Rattle.std.proofs.lemmas.Bool.{and_from}
+use Rattle.std.proofs.lemmas.Bool.{and_parts, and_from}
+use Rattle.std.proofs.lemmas.List.{take_more, take_all}
+use Rattle.std.proofs.lemmas.Option.{slice_get-get_or}
+use Rattle.heap_core.proofs.Lists.{all_at}
 use Rattle.taco_unit.specs.declared.kind.Kind.{Kind}
 use Rattle.taco_unit.specs.Well.{IsWell}
 use Rattle.heap_core.specs.Posed.{Posed}
@@ -20,15 +23,17 @@ use Rattle.dyn_core.specs.Runs.{RunUpTo}
 use Rattle.dyn_core.specs.Kinds.{is_kinded, HasKinds}
 use Rattle.dyn_core.specs.Laws.{Chain}
 use Rattle.dyn_core.proofs.Cases.{cases_up_to}
-use Rattle.dyn_core.proofs.Forms.{kinded_seq}
+use Rattle.dyn_core.proofs.Forms.{kinded_act, kinded_test, kinded_seq, kinded_choice}
 use Rattle.dyn_core.proofs.Kept.{runs_keep_kinds}
+use Rattle.dyn_steps.specs.declared.point.Point.{Point}
 use Rattle.dyn_steps.specs.declared.part.Front.{Front}
 use Rattle.dyn_steps.specs.declared.part.Part.{Part}
 use Rattle.dyn_steps.specs.Points.{IsPoint}
 use Rattle.dyn_steps.specs.Looked.{Vars, all_vars, looked_at, with_one}
 use Rattle.dyn_steps.specs.Paths.{Shows, Relation, Acts, Passes, IsPath, IsStep, IsTest}
 use Rattle.dyn_steps.specs.Joining.{Either, AreJoined}
-use Rattle.dyn_steps.proofs.Moving.{alike_self, agree_at, shows_move}
+use Rattle.dyn_steps.proofs.Moving.{alike_self, point_more}
+use Rattle.dyn_rel.specs.Runs.{IsProgPath}
 use Rattle.dyn_steps.proofs.Growing.{all_more}
 use Rattle.dyn_steps.proofs.Following.{Then, KeepsAll, then_path}
 use Rattle.dyn_steps.proofs.JoinedPaths.{joined_path}
@@ -92,10 +97,10 @@ seq_more p kinds from end xs x all ys a made well kinded a_is is first second =
     (then_path p kinds all_vars all_vars all_vars (Chain (Runs p) xs) (Runs p x) from (record { formula = form.And all; end = end }) made (record { formula = form.And ys; end = made.end })
     first second (chain_keeps p kinds well xs kinded) refl
     (λ m. holds_and ys m ∙ ap (list_all (λ b. holds b m)) is ∙ all_more (λ b. holds b m) all a ∙ ap (λ z. list_all (λ b. holds b m) all && z) (ap (λ b. holds b m) a_is)
-        ∙ ap (λ z. z && holds made.formula m) (sym (holds_and all m)))
+    ∙ ap (λ z. z && holds made.formula m) (sym (holds_and all m)))
     (λ one two.
-        sorted_and p (slice_get kinds) ys ∙ ap (list_all (is_sorted p (slice_get kinds))) is ∙ all_more (is_sorted p (slice_get kinds)) all a
-        ∙ and_from (list_all (is_sorted p (slice_get kinds)) all) (is_sorted p (slice_get kinds) a) (sym (sorted_and p (slice_get kinds) all) ∙ one) (ap (is_sorted p (slice_get kinds)) a_is ∙ two)))
+    sorted_and p (slice_get kinds) ys ∙ ap (list_all (is_sorted p (slice_get kinds))) is ∙ all_more (is_sorted p (slice_get kinds)) all a
+    ∙ and_from (list_all (is_sorted p (slice_get kinds)) all) (is_sorted p (slice_get kinds) a) (sym (sorted_and p (slice_get kinds) all) ∙ one) (ap (is_sorted p (slice_get kinds)) a_is ∙ two)))
 
 -- ## choices
 
@@ -173,3 +178,125 @@ test_runs p kinds x b from part path =
     path_widened p kinds (with_one x all_vars) all_vars all_vars all_vars (Runs p (q.Test x b)) from part (λ y inside. refl) (λ y inside. refl)
     (path_alike p kinds (with_one x all_vars) all_vars (Passes x b) (Runs p (q.Test x b)) from part
     (λ s t run. ((cases_up_to p 0).test x b s t).1 run) (λ s t run. ((cases_up_to p 0).test x b s t).0 run) path)
+
+-- an iteration takes no turn
+pub star_runs : (p : Posed) (kinds : List Kind) (body : Prog) (from : Front) (part : Part) → IsPath p kinds all_vars all_vars (λ s t. s ≡ t) from part → IsPath p kinds all_vars all_vars (Runs p (q.Star body)) from part
+star_runs p kinds body from part path =
+    path_alike p kinds all_vars all_vars (λ s t. s ≡ t) (Runs p (q.Star body)) from part
+    (λ s t same. ((cases_up_to p 0).star body s t).1 (0, omega arith, same))
+    (λ s t run. let k = ((cases_up_to p 0).star body s t).0 run in none k.0 k.1 s t k.2)
+    path
+  where
+    none : (k : ℕ) → k ≤ 0 → (s t : DynState) → Chain (Runs p) (replicate k body) s t → s ≡ t
+    none zero low s t c = c
+    none (suc k) low s t c = absurd (omega (arith, low))
+
+all_taken : {A : Type 0} (test : A → Bool) (i : ℕ) (xs : List A) → list_all test xs ≡ true → list_all test (take i xs) ≡ true
+all_taken test zero xs all = refl
+all_taken test (suc i) [] all = refl
+all_taken test (suc i) (x ∷ xs) all =
+    let both = and_parts (test x) (list_all test xs) all in
+    and_from (test x) (list_all test (take i xs)) both.0 (all_taken test i xs both.1)
+
+one_more : (parts : List Prog) (i : ℕ) (x : Prog) → i < length parts → x ≡ get_or parts i x → take (i + 1) parts ≡ take i parts ++ x ∷ []
+one_more parts i x low is = take_more parts i x low ∙ ap (λ z. take i parts ++ z ∷ []) (sym is)
+
+item_kinded : (p : Posed) (kinds : List Kind) (parts : List Prog) (i : ℕ) (x : Prog) → list_all (is_kinded p kinds) parts ≡ true → i < length parts → x ≡ get_or parts i x → is_kinded p kinds x ≡ true
+item_kinded p kinds parts i x all low is = all_at (is_kinded p kinds) parts i x all (slice_get-get_or parts i x low ∙ ap Some (sym is))
+
+pub seq_begun :
+    (p : Posed) (kinds : List Kind) (from : Front) (all : List Formula)
+    → all ≡ []
+    → IsPoint p kinds from.next from.at
+    → IsPath p kinds all_vars all_vars (λ s t. s ≡ t) from (record { formula = form.And all; end = from })
+seq_begun p kinds from all is point =
+    stay_path p kinds all_vars from (form.And all) (λ m. holds_and all m ∙ ap (list_all (λ b. holds b m)) is) (sorted_and p (slice_get kinds) all ∙ ap (list_all (is_sorted p (slice_get kinds))) is) point
+
+pub seq_step :
+    (p : Posed) (kinds : List Kind) (from end : Front) (parts : List Prog) (i : ℕ) (x : Prog) (all ys : List Formula) (a : Formula) (made : Part)
+    → IsWell p.unit
+    → is_kinded p kinds (q.Seq parts) ≡ true
+    → i < length parts
+    → x ≡ get_or parts i x
+    → a ≡ made.formula
+    → ys ≡ all ++ a ∷ []
+    → IsPath p kinds all_vars all_vars (Chain (Runs p) (take i parts)) from (record { formula = form.And all; end = end })
+    → IsProgPath p kinds x end made
+    → IsPath p kinds all_vars all_vars (Chain (Runs p) (take (i + 1) parts)) from (record { formula = form.And ys; end = made.end })
+seq_step p kinds from end parts i x all ys a made well kinded low is a_is ys_is first second =
+    let each = sym (kinded_seq p kinds parts) ∙ kinded in
+    subst (λ xs. IsPath p kinds all_vars all_vars (Chain (Runs p) xs) from (record { formula = form.And ys; end = made.end })) (sym (one_more parts i x low is))
+    (seq_more p kinds from end (take i parts) x all ys a made well (all_taken (is_kinded p kinds) i parts each) a_is ys_is first (second (item_kinded p kinds parts i x each low is) first.point))
+
+pub choice_step :
+    (p : Posed) (kinds : List Kind) (from begun : Front) (parts : List Prog) (i : ℕ) (x : Prog) (a b joint : Part)
+    → is_kinded p kinds (q.Choice parts) ≡ true
+    → IsPoint p kinds from.next from.at
+    → i < length parts
+    → x ≡ get_or parts i x
+    → begun ≡ record { at = from.at; next = a.end.next }
+    → IsPath p kinds all_vars all_vars (Branches p (take i parts)) from a
+    → IsProgPath p kinds x begun b
+    → (IsPoint p kinds b.end.next a.end.at → IsPoint p kinds b.end.next b.end.at → AreJoined p kinds all_vars a b joint)
+    → IsPath p kinds all_vars all_vars (Branches p (take (i + 1) parts)) from joint
+choice_step p kinds from begun parts i x a b joint kinded point low is begun_is first second are =
+    subst (λ xs. IsPath p kinds all_vars all_vars (Branches p xs) from joint) (sym (one_more parts i x low is))
+    (choice_more p kinds from (take i parts) x a b joint first branch (are (point_more p kinds a.end.next b.end.next a.end.at branch.up first.point) branch.point))
+  where
+    each : list_all (is_kinded p kinds) parts ≡ true
+    each = sym (kinded_choice p kinds parts) ∙ kinded
+
+    branch : IsPath p kinds all_vars all_vars (Runs p x) (record { at = from.at; next = a.end.next }) b
+    branch = subst (λ z. IsPath p kinds all_vars all_vars (Runs p x) z b) begun_is
+        (second (item_kinded p kinds parts i x each low is) (subst (λ (z : Front). IsPoint p kinds z.next z.at) (sym begun_is) (point_more p kinds from.next a.end.next from.at first.up point)))
+
+pub choice_begun :
+    (p : Posed) (kinds : List Kind) (from : Front) (first : Point) (part : Part)
+    → first ≡ from.at
+    → (IsPoint p kinds from.next first → IsPath p kinds all_vars all_vars (λ s t. ⊥) (record { at = first; next = from.next }) part)
+    → IsPoint p kinds from.next from.at
+    → IsPath p kinds all_vars all_vars (λ s t. ⊥) from part
+choice_begun p kinds from first part is path point =
+    subst (λ z. IsPath p kinds all_vars all_vars (λ s t. ⊥) (record { at = z; next = from.next }) part) is (path (subst (λ z. IsPoint p kinds from.next z) (sym is) point))
+
+pub seq_ended :
+    (p : Posed) (kinds : List Kind) (from end : Front) (parts : List Prog) (i : ℕ) (all : List Formula) (f : Formula)
+    → length parts ≤ i
+    → ((m : Reading) → holds f m ≡ list_all (λ b. holds b m) all)
+    → (list_all (is_sorted p (slice_get kinds)) all ≡ true → is_sorted p (slice_get kinds) f ≡ true)
+    → IsPath p kinds all_vars all_vars (Chain (Runs p) (take i parts)) from (record { formula = form.And all; end = end })
+    → IsPath p kinds all_vars all_vars (Runs p (q.Seq parts)) from (record { formula = f; end = end })
+seq_ended p kinds from end parts i all f high meaning sorted path =
+    seq_runs p kinds parts from (record { formula = f; end = end })
+    (subst (λ xs. IsPath p kinds all_vars all_vars (Chain (Runs p) xs) from (record { formula = f; end = end })) (take_all i parts high) (record {
+      up = path.up;
+      point = path.point;
+      indices = path.indices;
+      sorted = sorted (sym (sorted_and p (slice_get kinds) all) ∙ path.sorted);
+      sound = λ m s of is has shown. path.sound m s of (holds_and all m ∙ sym (meaning m) ∙ is) has shown;
+      full = λ m s t of has shown run.
+          let g = path.full m s t of has shown run in
+          record { reading = g.reading; of_problem = g.of_problem; agrees = g.agrees; shown = g.shown; holds = λ u is agree. meaning u ∙ sym (holds_and all u) ∙ g.holds u is agree };
+    }))
+
+pub choice_ended :
+    (p : Posed) (kinds : List Kind) (from : Front) (parts : List Prog) (i : ℕ) (part : Part)
+    → length parts ≤ i
+    → IsPath p kinds all_vars all_vars (Branches p (take i parts)) from part
+    → IsPath p kinds all_vars all_vars (Runs p (q.Choice parts)) from part
+choice_ended p kinds from parts i part high path =
+    choice_runs p kinds parts from part (subst (λ xs. IsPath p kinds all_vars all_vars (Branches p xs) from part) (take_all i parts high) path)
+
+-- the forms without parts, as the walk needs them
+pub prog_of_act : (p : Posed) (kinds : List Kind) (prog : Prog) (a : Act) (from : Front) (part : Part) → prog ≡ q.Act a → IsStep p kinds a from part → IsProgPath p kinds prog from part
+prog_of_act p kinds prog a from part is step = subst (λ z. IsProgPath p kinds z from part) (sym is) (λ kinded point. act_runs p kinds a from part (step (sym (kinded_act p kinds a) ∙ kinded) point all_vars))
+
+pub prog_of_test : (p : Posed) (kinds : List Kind) (prog : Prog) (x : ℕ) (b : Bool) (from : Front) (part : Part) → prog ≡ q.Test x b → IsTest p kinds x b from part → IsProgPath p kinds prog from part
+prog_of_test p kinds prog x b from part is tested = subst (λ z. IsProgPath p kinds z from part) (sym is) (λ kinded point. test_runs p kinds x b from part (tested (sym (kinded_test p kinds x b) ∙ kinded) point all_vars))
+
+pub prog_of_star :
+    (p : Posed) (kinds : List Kind) (prog body : Prog) (from : Front) (f : Formula) → prog ≡ q.Star body → ((m : Reading) → holds f m ≡ true) → is_sorted p (slice_get kinds) f ≡ true
+    → IsProgPath p kinds prog from (record { formula = f; end = from })
+prog_of_star p kinds prog body from f is always sorted =
+    subst (λ z. IsProgPath p kinds z from (record { formula = f; end = from })) (sym is)
+    (λ kinded point. star_runs p kinds body from (record { formula = f; end = from }) (stay_path p kinds all_vars from f always sorted point))

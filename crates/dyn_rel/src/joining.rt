@@ -51,12 +51,7 @@ fn joined_indices(
 }
 
 /// The indices behind two branches.
-fn joined_point(
-    alloc: Global,
-    left: &Point,
-    right: &Point,
-    new: u32,
-) -> Result<Point, NoMemory>
+fn joined_point(alloc: Global, left: &Point, right: &Point, new: u32) -> Result<Point, NoMemory>
     ensures { IfOk result (λ at. at ≡ joint_point new left.now right.now) }
 {
     let fields = joined_indices(alloc, left.fields.as_slice(), right.fields.as_slice(), new)?;

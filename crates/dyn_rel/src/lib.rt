@@ -2,3 +2,6 @@
 #![tactic(auto)]
 
 mod joining;
+mod walk;
+
+pub use walk::path;
