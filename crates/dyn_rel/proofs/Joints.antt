@@ -1,0 +1,250 @@
+-- The point behind two branches, and what is said of it.
+use Rattle.std.proofs.Common.{◌≡◌, ◌⊎◌, ℕ, zero, suc, ◌+◌, ◌<◌, ◌≤◌, Bool, true, false, ◌&&◌, ◌||◌, List, [], ◌∷◌, ◌++◌, length, map, Option, Some, None, inl, inr, refl, sym, ◌∙◌, ap, subst, arith, get_or}
+use Rattle.std.specs.Prelude.{◌==◌, nat_lt, if◌then◌else◌, slice_get, is_some, option_map}
+use Rattle.std.specs.List.{range_with_len}
+use Rattle.std.proofs.lemmas.Bool.{cases_eq, eq-eqb, ne_eqb, and_parts, and_from, ltb-true, false≢true}
+use Rattle.std.proofs.lemmas.List.{get_or_past}
+use Rattle.std.proofs.lemmas.List.FromFn.{length-map-range_with_len, get_or-map-range_with_len, map-range_with_len_more}
+use Rattle.taco_unit.specs.declared.kind.Kind.{Kind}
+use Rattle.taco_unit.specs.declared.unit.FieldDef.{FieldDef}
+use Rattle.heap_core.specs.Posed.{Posed}
+use Rattle.rel_core.specs.declared.formula.Formula.{Formula}
+use Rattle.rel_core.specs.declared.relation.What.{What}
+use Rattle.rel_core.specs.declared.relation.What.TheVariants as what
+use Rattle.rel_core.specs.Reading.{Reading, numbers_below}
+use Rattle.rel_core.specs.Meaning.{holds}
+use Rattle.rel_core.specs.Uses.{use_of_kind, use_of, IsOf, is_sorted}
+use Rattle.dyn_steps.specs.declared.point.Point.{Point}
+use Rattle.dyn_steps.specs.declared.part.Part.{Part}
+use Rattle.dyn_steps.specs.Points.{index_of, relation_at, IsPoint}
+use Rattle.dyn_steps.specs.Agreeing.{IsAlike}
+use Rattle.dyn_steps.specs.Looked.{Vars}
+use Rattle.dyn_steps.specs.Paths.{IsSameness}
+use Rattle.dyn_steps.specs.Joining.{Joins, Equates, AreJoined}
+use Rattle.dyn_steps.proofs.Moving.{alike_self}
+use Rattle.dyn_rel.specs.Joining.{merged, all_merged, joint_point, IsOver, SaysSame}
+
+less_or_not : (a b : ℕ) → (a < b) ⊎ (b ≤ a)
+less_or_not a b = at (nat_lt a b) refl
+  where
+    at : (t : Bool) → nat_lt a b ≡ t → (a < b) ⊎ (b ≤ a)
+    at true is = inl (ltb-true a b is)
+    at false is = inr (grind (arith, is))
+
+-- ## indices
+
+merged_first : (n i j : ℕ) → (merged n i j ≡ i) ⊎ (merged n i j ≡ n)
+merged_first n i j = elim (cases_eq i j) [
+  | inl same ↦ inl (ap (λ b. if b then i else n) (eq-eqb i j same))
+  | inr other ↦ inr (ap (λ b. if b then i else n) (ne_eqb i j other))
+]
+
+merged_second : (n i j : ℕ) → (merged n i j ≡ j) ⊎ (merged n i j ≡ n)
+merged_second n i j = elim (cases_eq i j) [
+  | inl same ↦ inl (ap (λ b. if b then i else n) (eq-eqb i j same) ∙ same)
+  | inr other ↦ inr (ap (λ b. if b then i else n) (ne_eqb i j other))
+]
+
+pub merged_length : (n : ℕ) (is js : List ℕ) → length (all_merged n is js) ≡ length is
+merged_length n is js = length-map-range_with_len (λ x. merged n (get_or is x 0) (get_or js x 0)) 0 (length is)
+
+merged_at : (n : ℕ) (is js : List ℕ) (x : ℕ) → x < length is → get_or (all_merged n is js) x 0 ≡ merged n (get_or is x 0) (get_or js x 0)
+merged_at n is js x low = get_or-map-range_with_len (λ x. merged n (get_or is x 0) (get_or js x 0)) 0 (length is) x x 0 low (omega arith)
+
+merged_past : (n : ℕ) (is js : List ℕ) (x : ℕ) → length is ≤ x → get_or (all_merged n is js) x 0 ≡ 0
+merged_past n is js x high = get_or_past (all_merged n is js) x 0 (let same = merged_length n is js in omega (arith, high, same))
+
+list_first : (n : ℕ) (is js : List ℕ) (x : ℕ) → (get_or (all_merged n is js) x 0 ≡ get_or is x 0) ⊎ (get_or (all_merged n is js) x 0 ≡ n)
+list_first n is js x = elim (less_or_not x (length is)) [
+  | inl low ↦ elim (merged_first n (get_or is x 0) (get_or js x 0)) [
+    | inl one ↦ inl (merged_at n is js x low ∙ one)
+    | inr new ↦ inr (merged_at n is js x low ∙ new)
+  ]
+  | inr high ↦ inl (merged_past n is js x high ∙ sym (get_or_past is x 0 high))
+]
+
+list_second : (n : ℕ) (is js : List ℕ) → length is ≡ length js → (x : ℕ) → (get_or (all_merged n is js) x 0 ≡ get_or js x 0) ⊎ (get_or (all_merged n is js) x 0 ≡ n)
+list_second n is js same x = elim (less_or_not x (length is)) [
+  | inl low ↦ elim (merged_second n (get_or is x 0) (get_or js x 0)) [
+    | inl one ↦ inl (merged_at n is js x low ∙ one)
+    | inr new ↦ inr (merged_at n is js x low ∙ new)
+  ]
+  | inr high ↦ inl (merged_past n is js x high ∙ sym (get_or_past js x 0 (omega (arith, high, same))))
+]
+
+pub joins_first : (n : ℕ) (a b : Point) → Joins n a (joint_point n a b)
+joins_first n a b what.Live = merged_first n a.live b.live
+joins_first n a b what.ClassOf = merged_first n a.live b.live
+joins_first n a b (what.Field f) = list_first n a.fields b.fields f
+joins_first n a b (what.Slot x) = list_first n a.vars b.vars x
+
+pub joins_second : (n : ℕ) (a b : Point) → length a.fields ≡ length b.fields → length a.vars ≡ length b.vars → Joins n b (joint_point n a b)
+joins_second n a b fields vars what.Live = merged_second n a.live b.live
+joins_second n a b fields vars what.ClassOf = merged_second n a.live b.live
+joins_second n a b fields vars (what.Field f) = list_second n a.fields b.fields fields f
+joins_second n a b fields vars (what.Slot x) = list_second n a.vars b.vars vars x
+
+pub joint_is_point : (p : Posed) (kinds : List Kind) (n : ℕ) (a b : Point) → IsPoint p kinds n a → IsPoint p kinds (n + 1) (joint_point n a b)
+joint_is_point p kinds n a b point = record {
+  fields = merged_length n a.fields b.fields ∙ point.fields;
+  vars = merged_length n a.vars b.vars ∙ point.vars;
+  below = λ w. elim (joins_first n a b w) [
+    | inl old ↦ subst (λ i. i < n + 1) (sym old) (let low = point.below w in omega (arith, low))
+    | inr new ↦ subst (λ i. i < n + 1) (sym new) (omega arith)
+  ];
+}
+
+-- one more index
+pub indices_more :
+    (n : ℕ) (is js all ys : List ℕ) (i first second x : ℕ)
+    → ys ≡ all ++ i ∷ []
+    → i ≡ merged n first second
+    → first ≡ get_or is x 0
+    → second ≡ get_or js x 0
+    → all ≡ map (λ z. merged n (get_or is z 0) (get_or js z 0)) (numbers_below x)
+    → ys ≡ map (λ z. merged n (get_or is z 0) (get_or js z 0)) (numbers_below (x + 1))
+indices_more n is js all ys i first second x is_ys is_i is_first is_second before =
+    is_ys ∙ ap (λ zs. zs ++ i ∷ []) before
+    ∙ ap (λ z. map (λ z. merged n (get_or is z 0) (get_or js z 0)) (numbers_below x) ++ z ∷ []) (is_i ∙ ap (λ z. merged n z second) is_first ∙ ap (λ z. merged n (get_or is x 0) z) is_second)
+    ∙ sym (map-range_with_len_more (λ z. merged n (get_or is z 0) (get_or js z 0)) 0 x x (omega arith))
+
+-- ## equalities
+
+-- a relation is the same at one index
+pub same_index : (p : Posed) (kinds : List Kind) (w : What) (new old : ℕ) (f : Formula) → new ≡ old → ((m : Reading) → holds f m ≡ true) → is_sorted p (slice_get kinds) f ≡ true → IsSameness p kinds w new old f
+same_index p kinds w new old f same always sorted = record {
+  sorted = sorted;
+  meaning = λ m of. (λ is. subst (λ i. IsAlike m (record { what = w; index = old }) m (record { what = w; index = i })) (sym same) (alike_self m (record { what = w; index = old })), λ alike. always m);
+}
+
+there_within : {A : Type 0} (xs : List A) (i : ℕ) → i < length xs → is_some (slice_get xs i) ≡ true
+there_within [] i low = absurd (omega (arith, low))
+there_within (x ∷ xs) zero low = refl
+there_within (x ∷ xs) (suc i) low = there_within xs i (omega (arith, low))
+
+mapped : {A B : Type 0} (f : A → B) (x : Option A) → is_some x ≡ true → is_some (option_map f x) ≡ true
+mapped f (Some x) is = refl
+mapped f None is = absurd (false≢true is)
+
+-- fields of the unit and variables that have kinds have uses
+pub known_field : (p : Posed) (kinds : List Kind) (f : ℕ) → f < length p.unit.fields → is_some (use_of p (slice_get kinds) (what.Field f)) ≡ true
+known_field p kinds f low = mapped (λ (d : FieldDef). use_of_kind d.kind) (slice_get p.unit.fields f) (there_within p.unit.fields f low)
+
+pub known_slot : (p : Posed) (kinds : List Kind) (x : ℕ) → x < length kinds → is_some (use_of p (slice_get kinds) (what.Slot x)) ≡ true
+known_slot p kinds x low = mapped use_of_kind (slice_get kinds x) (there_within kinds x low)
+
+pub point_equates :
+    (p : Posed) (kinds : List Kind) (vars : Vars) (at joint : Point) (f fields slots live class : Formula)
+    → length joint.fields ≡ length at.fields
+    → length joint.vars ≡ length at.vars
+    → SaysSame p kinds (λ x. what.Field x) joint.fields at.fields (length at.fields) fields
+    → SaysSame p kinds (λ x. what.Slot x) joint.vars at.vars (length at.vars) slots
+    → IsSameness p kinds what.Live joint.live at.live live
+    → IsSameness p kinds what.ClassOf joint.live at.live class
+    → ((m : Reading) → holds f m ≡ (holds fields m && holds slots m && (holds live m && holds class m)))
+    → is_sorted p (slice_get kinds) f ≡ true
+    → Equates p kinds vars at joint f
+point_equates p kinds vars at joint f fields slots live class few also of_fields of_slots of_live of_class meaning sorted = record {
+  sorted = sorted;
+  alike = λ m of is w looked. each m of is w;
+  holds = λ m of all.
+      meaning m ∙ and_from (holds fields m && holds slots m) (holds live m && holds class m)
+      (and_from (holds fields m) (holds slots m) ((of_fields.meaning m of).1 (λ x low. all (what.Field x))) ((of_slots.meaning m of).1 (λ x low. all (what.Slot x))))
+      (and_from (holds live m) (holds class m) ((of_live.meaning m of).1 (all what.Live)) ((of_class.meaning m of).1 (all what.ClassOf)));
+}
+  where
+    past : (m : Reading) (w : What) → index_of at w ≡ 0 → index_of joint w ≡ 0 → IsAlike m (relation_at at w) m (relation_at joint w)
+    past m w first second =
+        subst (λ i. IsAlike m (record { what = w; index = i }) m (relation_at joint w)) (sym first)
+        (subst (λ i. IsAlike m (record { what = w; index = 0 }) m (record { what = w; index = i })) (sym second) (alike_self m (record { what = w; index = 0 })))
+
+    each : (m : Reading) → IsOf p (slice_get kinds) m → holds f m ≡ true → (w : What) → IsAlike m (relation_at at w) m (relation_at joint w)
+    each m of is w =
+        let both = and_parts (holds fields m && holds slots m) (holds live m && holds class m) (sym (meaning m) ∙ is) in
+        let lists = and_parts (holds fields m) (holds slots m) both.0 in
+        let heap = and_parts (holds live m) (holds class m) both.1 in
+        one w lists.0 lists.1 heap.0 heap.1
+      where
+        one : (w : What) → holds fields m ≡ true → holds slots m ≡ true → holds live m ≡ true → holds class m ≡ true → IsAlike m (relation_at at w) m (relation_at joint w)
+        one what.Live a b c d = (of_live.meaning m of).0 c
+        one what.ClassOf a b c d = (of_class.meaning m of).0 d
+        one (what.Field g) a b c d = elim (less_or_not g (length at.fields)) [
+          | inl low ↦ (of_fields.meaning m of).0 a g low
+          | inr high ↦ past m (what.Field g) (get_or_past at.fields g 0 high) (get_or_past joint.fields g 0 (omega (arith, high, few)))
+        ]
+        one (what.Slot x) a b c d = elim (less_or_not x (length at.vars)) [
+          | inl low ↦ (of_slots.meaning m of).0 b x low
+          | inr high ↦ past m (what.Slot x) (get_or_past at.vars x 0 high) (get_or_past joint.vars x 0 (omega (arith, high, also)))
+        ]
+
+-- the same, by the lists that were handed on
+pub point_said :
+    (p : Posed) (kinds : List Kind) (vars : Vars) (at joint : Point)
+    → IsOver p kinds at joint
+    → (f fields slots live class : Formula) (to_fields from_fields to_slots from_slots : List ℕ)
+    → to_fields ≡ joint.fields → from_fields ≡ at.fields → to_slots ≡ joint.vars → from_slots ≡ at.vars
+    → (length from_fields ≡ length p.unit.fields → SaysSame p kinds (λ x. what.Field x) to_fields from_fields (length from_fields) fields)
+    → (length from_slots ≡ length kinds → SaysSame p kinds (λ x. what.Slot x) to_slots from_slots (length from_slots) slots)
+    → IsSameness p kinds what.Live joint.live at.live live
+    → IsSameness p kinds what.ClassOf joint.live at.live class
+    → ((m : Reading) → holds f m ≡ (holds fields m && holds slots m && (holds live m && holds class m)))
+    → (is_sorted p (slice_get kinds) fields ≡ true → is_sorted p (slice_get kinds) slots ≡ true → is_sorted p (slice_get kinds) live ≡ true → is_sorted p (slice_get kinds) class ≡ true → is_sorted p (slice_get kinds) f ≡ true)
+    → Equates p kinds vars at joint f
+point_said p kinds vars at joint over f fields slots live class to_fields from_fields to_slots from_slots tf ff ts fs of_fields of_slots of_live of_class meaning sorted =
+    point_equates p kinds vars at joint f fields slots live class over.joint_fields over.joint_vars said also of_live of_class meaning (sorted said.sorted also.sorted of_live.sorted of_class.sorted)
+  where
+    said : SaysSame p kinds (λ x. what.Field x) joint.fields at.fields (length at.fields) fields
+    said = subst (λ xs. SaysSame p kinds (λ x. what.Field x) xs at.fields (length at.fields) fields) tf
+        (subst (λ xs. SaysSame p kinds (λ x. what.Field x) to_fields xs (length xs) fields) ff (of_fields (ap length ff ∙ over.fields)))
+
+    also : SaysSame p kinds (λ x. what.Slot x) joint.vars at.vars (length at.vars) slots
+    also = subst (λ xs. SaysSame p kinds (λ x. what.Slot x) xs at.vars (length at.vars) slots) ts
+        (subst (λ xs. SaysSame p kinds (λ x. what.Slot x) to_slots xs (length xs) slots) fs (of_slots (ap length fs ∙ over.vars)))
+
+-- ## two branches
+
+pub are_joined :
+    (p : Posed) (kinds : List Kind) (vars : Vars) (a b : Part) (at : Point) (next : ℕ) (f left right same also : Formula)
+    → at ≡ joint_point b.end.next a.end.at b.end.at
+    → next ≡ b.end.next + 1
+    → (IsOver p kinds a.end.at at → Equates p kinds vars a.end.at at same)
+    → (IsOver p kinds b.end.at at → Equates p kinds vars b.end.at at also)
+    → ((m : Reading) → holds left m ≡ (holds a.formula m && holds same m))
+    → ((m : Reading) → holds right m ≡ (holds b.formula m && holds also m))
+    → ((m : Reading) → holds f m ≡ (holds left m || holds right m))
+    → (is_sorted p (slice_get kinds) a.formula ≡ true → is_sorted p (slice_get kinds) same ≡ true → is_sorted p (slice_get kinds) left ≡ true)
+    → (is_sorted p (slice_get kinds) b.formula ≡ true → is_sorted p (slice_get kinds) also ≡ true → is_sorted p (slice_get kinds) right ≡ true)
+    → (is_sorted p (slice_get kinds) left ≡ true → is_sorted p (slice_get kinds) right ≡ true → is_sorted p (slice_get kinds) f ≡ true)
+    → IsPoint p kinds b.end.next a.end.at
+    → IsPoint p kinds b.end.next b.end.at
+    → AreJoined p kinds vars a b (record { formula = f; end = record { at = at; next = next } })
+are_joined p kinds vars a b at next f left right same also at_is next_is equate equate_also of_left of_right of_all sorted_left sorted_right sorted_all first second = record {
+  first_equal = same;
+  second_equal = also;
+  next = next_is;
+  point = λ one two. subst (λ z. IsPoint p kinds (b.end.next + 1) z) (sym at_is) (joint_is_point p kinds b.end.next a.end.at b.end.at one);
+  first_joins = subst (λ z. Joins b.end.next a.end.at z) (sym at_is) (joins_first b.end.next a.end.at b.end.at);
+  second_joins = subst (λ z. Joins b.end.next b.end.at z) (sym at_is) (joins_second b.end.next a.end.at b.end.at fields slots);
+  first_equates = equate over_first;
+  second_equates = equate_also over_second;
+  meaning = λ m. of_all m ∙ ap (λ z. z || holds right m) (of_left m) ∙ ap (λ z. (holds a.formula m && holds same m) || z) (of_right m);
+  sorted = λ one two. sorted_all (sorted_left one (equate over_first).sorted) (sorted_right two (equate_also over_second).sorted);
+}
+  where
+    fields : length a.end.at.fields ≡ length b.end.at.fields
+    fields = first.fields ∙ sym second.fields
+
+    slots : length a.end.at.vars ≡ length b.end.at.vars
+    slots = first.vars ∙ sym second.vars
+
+    joint_fields : length at.fields ≡ length a.end.at.fields
+    joint_fields = ap (λ (z : Point). length z.fields) at_is ∙ merged_length b.end.next a.end.at.fields b.end.at.fields
+
+    joint_vars : length at.vars ≡ length a.end.at.vars
+    joint_vars = ap (λ (z : Point). length z.vars) at_is ∙ merged_length b.end.next a.end.at.vars b.end.at.vars
+
+    over_first : IsOver p kinds a.end.at at
+    over_first = record { fields = first.fields; vars = first.vars; joint_fields = joint_fields; joint_vars = joint_vars }
+
+    over_second : IsOver p kinds b.end.at at
+    over_second = record { fields = second.fields; vars = second.vars; joint_fields = joint_fields ∙ fields; joint_vars = joint_vars ∙ slots }

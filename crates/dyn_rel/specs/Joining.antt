@@ -1,0 +1,37 @@
+-- Two branches of a program and what joins them. (This project's own.)
+use Rattle.std.specs.Prelude.{◌≡◌, ◌⊎◌, ◌↔◌, ℕ, ◌+◌, ◌<◌, ◌==◌, true, ◌&&◌, ◌||◌, if◌then◌else◌, List, length, map, get_or, slice_get, IsTrue}
+use Rattle.std.specs.List.{list_all}
+use Rattle.taco_unit.specs.declared.kind.Kind.{Kind}
+use Rattle.heap_core.specs.Posed.{Posed}
+use Rattle.rel_core.specs.declared.formula.Formula.{Formula}
+use Rattle.rel_core.specs.declared.relation.What.{What}
+use Rattle.rel_core.specs.Reading.{Reading, numbers_below}
+use Rattle.rel_core.specs.Meaning.{holds}
+use Rattle.rel_core.specs.Uses.{IsOf, is_sorted}
+use Rattle.dyn_steps.specs.declared.point.Point.{Point}
+use Rattle.dyn_steps.specs.Agreeing.{IsAlike}
+
+-- the index where both have one, and else a new one
+abbrev pub merged : ℕ → ℕ → ℕ → ℕ
+merged n i j = if i == j then i else n
+
+abbrev pub all_merged : ℕ → List ℕ → List ℕ → List ℕ
+all_merged n is js = map (λ x. merged n (get_or is x 0) (get_or js x 0)) (numbers_below (length is))
+
+abbrev pub joint_point : ℕ → Point → Point → Point
+joint_point n a b = record { fields = all_merged n a.fields b.fields; live = merged n a.live b.live; vars = all_merged n a.vars b.vars }
+
+-- of each of these relations, below a number, the formula says that it is the same at two indices
+pub record SaysSame (p : Posed) (kinds : List Kind) (w : ℕ → What) (to from : List ℕ) (n : ℕ) (f : Formula) : Type 0 where
+  pub sorted : IsTrue (is_sorted p (slice_get kinds) f)
+  pub meaning :
+      (m : Reading)
+      → IsOf p (slice_get kinds) m
+      → IsTrue (holds f m) ↔ ((x : ℕ) → x < n → IsAlike m (record { what = w x; index = get_or from x 0 }) m (record { what = w x; index = get_or to x 0 }))
+
+-- a point has an index for each field of the unit and each variable that has a kind, and the other as many
+pub record IsOver (p : Posed) (kinds : List Kind) (at joint : Point) : Type 0 where
+  pub fields : length at.fields ≡ length p.unit.fields
+  pub vars : length at.vars ≡ length kinds
+  pub joint_fields : length joint.fields ≡ length at.fields
+  pub joint_vars : length joint.vars ≡ length at.vars

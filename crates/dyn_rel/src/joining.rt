@@ -1,0 +1,200 @@
+//! Two branches of a program, and what joins them.
+
+ghost use Rattle.std.specs.Prelude.{◌≡◌, ◌+◌, ◌<◌, List, length, get_or, slice_get, IfOk, IsTrue, is_some};
+ghost use Rattle.heap_core.specs.Posed.{Posed};
+ghost use Rattle.rel_core.specs.declared.relation.What.TheVariants as what;
+ghost use Rattle.rel_core.specs.Uses.{use_of};
+ghost use Rattle.dyn_steps.specs.Paths.{IsSameness};
+ghost use Rattle.dyn_steps.specs.Points.{IsPoint};
+ghost use Rattle.dyn_steps.specs.Looked.{Vars};
+ghost use Rattle.dyn_steps.specs.Joining.{AreJoined, Equates};
+ghost use Rattle.dyn_rel.specs.Joining.{merged, all_merged, joint_point, IsOver, SaysSame};
+
+use dyn_steps::{Front, Part, Point, same_relation};
+use no_memory::NoMemory;
+use rel_core::{Formula, What};
+use sqlite_items::{Boxed, Items};
+use std::alloc::Global;
+use taco_unit::Kind;
+
+/// The index at a place, and 0 where there is none.
+fn index_at(indices: &[u32], place: usize) -> u32
+    ensures { result ≡ get_or indices.now place 0 }
+{
+    indices.get(place).copied().unwrap_or(0)
+}
+
+/// The index where both have one, and else a new one.
+fn joined_index(left: u32, right: u32, new: u32) -> u32
+    ensures { result ≡ merged new left right }
+{
+    if left == right { left } else { new }
+}
+
+/// The same for two lists of indices.
+fn joined_indices(
+    alloc: Global,
+    left: &[u32],
+    right: &[u32],
+    new: u32,
+) -> Result<Items<u32>, NoMemory>
+    ensures { IfOk result (λ all. all ≡ all_merged new left.now right.now) }
+{
+    let mut all = Items::from_vec(Vec::with_capacity(alloc, left.len())?);
+    for place in 0..left.len() {
+        let first = index_at(left, place);
+        let second = index_at(right, place);
+        let index = joined_index(first, second, new);
+        all.push(index)?;
+    }
+    Ok(all)
+}
+
+/// The indices behind two branches.
+fn joined_point(alloc: Global, left: &Point, right: &Point, new: u32) -> Result<Point, NoMemory>
+    ensures { IfOk result (λ at. at ≡ joint_point new left.now right.now) }
+{
+    let fields = joined_indices(alloc, left.fields.as_slice(), right.fields.as_slice(), new)?;
+    let vars = joined_indices(alloc, left.vars.as_slice(), right.vars.as_slice(), new)?;
+    Ok(Point {
+        fields,
+        live: joined_index(left.live, right.live, new),
+        vars,
+    })
+}
+
+/// A relation that has a use is the same at two indices.
+fn equated(
+    alloc: Global,
+    kinds: &[Kind],
+    what: What,
+    new: u32,
+    old: u32,
+) -> Result<Boxed<Formula>, NoMemory>
+    ensures { IfOk result (λ r. (p : Posed) → IsTrue (is_some (use_of p (slice_get kinds.now) what)) → IsSameness p kinds.now what new old r) }
+{
+    if new == old {
+        let always = Formula::constant(alloc, true)?;
+        Ok(always)
+    } else {
+        let same = same_relation(alloc, kinds, what, new, old)?;
+        Ok(same)
+    }
+}
+
+/// The number of a field, where it is one.
+fn field_number(place: usize) -> Result<u8, NoMemory>
+    ensures { IfOk result (λ field. field ≡ place) }
+{
+    if place < 256 {
+        Ok(place as u8)
+    } else {
+        Err(NoMemory)
+    }
+}
+
+/// The number of a variable, where it is one.
+fn variable_number(place: usize) -> Result<u16, NoMemory>
+    ensures { IfOk result (λ variable. variable ≡ place) }
+{
+    if place < 65536 {
+        Ok(place as u16)
+    } else {
+        Err(NoMemory)
+    }
+}
+
+/// Each field of the unit is the same at two indices.
+fn fields_equated(
+    alloc: Global,
+    kinds: &[Kind],
+    to: &[u32],
+    from: &[u32],
+) -> Result<Boxed<Formula>, NoMemory>
+    ensures { IfOk result (λ r. (p : Posed) → length from.now ≡ length p.unit.fields → SaysSame p kinds.now (λ x. what.Field x) to.now from.now (length from.now) r) }
+{
+    let mut parts = Items::from_vec(Vec::with_capacity(alloc, from.len())?);
+    for place in 0..from.len() {
+        let field = field_number(place)?;
+        let new = index_at(to, place);
+        let old = index_at(from, place);
+        let same = equated(alloc, kinds, What::Field(field), new, old)?;
+        parts.push(same.into_inner())?;
+    }
+    let all = Formula::all(alloc, parts)?;
+    Ok(all)
+}
+
+/// Each variable that has a kind is the same at two indices.
+fn vars_equated(
+    alloc: Global,
+    kinds: &[Kind],
+    to: &[u32],
+    from: &[u32],
+) -> Result<Boxed<Formula>, NoMemory>
+    ensures { IfOk result (λ r. (p : Posed) → length from.now ≡ length kinds.now → SaysSame p kinds.now (λ x. what.Slot x) to.now from.now (length from.now) r) }
+{
+    let mut parts = Items::from_vec(Vec::with_capacity(alloc, from.len())?);
+    for place in 0..from.len() {
+        let variable = variable_number(place)?;
+        let new = index_at(to, place);
+        let old = index_at(from, place);
+        let same = equated(alloc, kinds, What::Slot(variable), new, old)?;
+        parts.push(same.into_inner())?;
+    }
+    let all = Formula::all(alloc, parts)?;
+    Ok(all)
+}
+
+/// Each relation is the same at two points.
+fn point_equated(
+    alloc: Global,
+    kinds: &[Kind],
+    at: &Point,
+    joint: &Point,
+) -> Result<Boxed<Formula>, NoMemory>
+    ensures { IfOk result (λ r. (p : Posed) (vars : Vars) → IsOver p kinds.now at.now joint.now → Equates p kinds.now vars at.now joint.now r) }
+{
+    let fields = fields_equated(alloc, kinds, joint.fields.as_slice(), at.fields.as_slice())?;
+    let vars = vars_equated(alloc, kinds, joint.vars.as_slice(), at.vars.as_slice())?;
+    let lists = Formula::both(alloc, fields, vars)?;
+    let live = equated(alloc, kinds, What::Live, joint.live, at.live)?;
+    let class = equated(alloc, kinds, What::ClassOf, joint.live, at.live)?;
+    let heap = Formula::both(alloc, live, class)?;
+    let all = Formula::both(alloc, lists, heap)?;
+    Ok(all)
+}
+
+/// The index behind one, where there is one.
+fn next_index(index: u32) -> Result<u32, NoMemory>
+    ensures { IfOk result (λ next. next ≡ index + 1) }
+{
+    match index.checked_add(1) {
+        Some(next) => Ok(next),
+        None => Err(NoMemory),
+    }
+}
+
+/// The part of two branches, of which the second was begun from the first one's next index. Linear in the fields
+/// and variables.
+pub(crate) fn join(
+    alloc: Global,
+    kinds: &[Kind],
+    first: Part,
+    second: Part,
+) -> Result<Part, NoMemory>
+    ensures { IfOk result (λ r. (p : Posed) (vars : Vars) → IsPoint p kinds.now second.end.next first.end.at → IsPoint p kinds.now second.end.next second.end.at → AreJoined p kinds.now vars first second r) }
+{
+    let new = second.end.next;
+    let next = next_index(new)?;
+    let at = joined_point(alloc, &first.end.at, &second.end.at, new)?;
+    let same = point_equated(alloc, kinds, &first.end.at, &at)?;
+    let left = Formula::both(alloc, first.formula, same)?;
+    let also = point_equated(alloc, kinds, &second.end.at, &at)?;
+    let right = Formula::both(alloc, second.formula, also)?;
+    let formula = Formula::either(alloc, left, right)?;
+    Ok(Part {
+        formula,
+        end: Front { at, next },
+    })
+}

@@ -1,0 +1,5 @@
+use Rattle.dyn_steps.proofs.equations.is_order.Goals as goal
+
+pub returns-clause-sorted : goal.returns-clause-sorted
+returns-clause-sorted c = λ p kinds a b d. c.in_ok-same.ensures.sorted p kinds (c.in_ok-variable.ensures.sorted p kinds a)
+    (c.in_ok-truth.ensures.sorted p kinds (c.in_ok-left.ensures.sorted p kinds b) (c.in_ok-right.ensures.sorted p kinds d))

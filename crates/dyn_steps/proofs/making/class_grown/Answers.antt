@@ -1,0 +1,14 @@
+use Rattle.std.proofs.Common.{ap, ◌∙◌, refl}
+use Rattle.heap_core.specs.Outcomes.{is_object}
+use Rattle.rel_core.specs.Meaning.{are_of}
+use Rattle.rel_core.specs.Uses.{AsClass, is_spread}
+use Rattle.dyn_steps.proofs.Combining.{both_of}
+use Rattle.dyn_steps.proofs.making.class_grown.Goals as goal
+
+pub returns-clause-meaning : goal.returns-clause-meaning
+returns-clause-meaning c = λ m. c.in_ok-both.ensures.meaning m
+    ∙ both_of _ _ _ _ (c.in_ok-of.ensures.meaning m ∙ ap (λ r. are_of m (is_object 0) c.args.class r) c.in_ok-given.ensures) (c.in_ok-grown.ensures.meaning m)
+
+pub returns-clause-sorted : goal.returns-clause-sorted
+returns-clause-sorted c = λ p kinds below variable.
+    c.in_ok-both.ensures.sorted p kinds (c.in_ok-of.ensures.sorted p kinds below (ap (is_spread p kinds AsClass) c.in_ok-given.ensures)) (c.in_ok-grown.ensures.sorted p kinds variable refl)

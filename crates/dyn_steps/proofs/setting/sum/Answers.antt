@@ -1,0 +1,7 @@
+use Rattle.dyn_steps.proofs.Parts.{sum_part}
+use Rattle.dyn_steps.proofs.setting.sum.Goals as goal
+
+pub returns : goal.returns
+returns c =
+    sum_part _ _ c.well_posed.ensures.unit c.well_posed.ensures.scope _ _ _ _ _ _ _ _ _ c.slot-new.ensures c.slot-first.ensures c.slot-second.ensures c.in_ok-part.ensures
+    (c.in_ok-formula.ensures.meaning, c.in_ok-formula.ensures.sorted)
