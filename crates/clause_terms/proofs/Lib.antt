@@ -1,0 +1,5 @@
+pub mod Outcomes
+pub mod Flags
+pub mod Only
+pub mod Numbers
+pub mod FieldTerms
