@@ -142,3 +142,19 @@ told_lazy m goes decided k (Is (Flag v)) y a b r when means left right is fine i
       inside = rw (inside, left.inside, left.fine, ← w) refl;
       value = λ yes. rw (value, ← w) refl;
     }
+
+pub and_is : (a b : Bool) → (a && b) ≡ (if a then b else false)
+and_is true b = refl
+and_is false b = refl
+
+pub implies_is : (a b : Bool) → (not a || b) ≡ (if a then b else true)
+implies_is true b = refl
+implies_is false b = refl
+
+pub or_is : (w a b : Bool) → w ≡ not a → (a || b) ≡ (if w then b else true)
+or_is w true b is = rw is refl
+or_is w false b is = rw is refl
+
+pub or_means : (y : Seen) (v : Bool) → (if v then flag true else as_flag y) ≡ (if not v then as_flag y else flag true)
+or_means y true = refl
+or_means y false = refl

@@ -1,5 +1,6 @@
 pub mod Outcomes
 pub mod Flags
 pub mod Only
-pub mod Numbers
+pub mod Fitting
+pub mod NumberTerms
 pub mod FieldTerms

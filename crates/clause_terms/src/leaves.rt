@@ -52,7 +52,7 @@ impl Term {
     }
 
     /// A number, where there is one, and else Out.
-    #[tactic(auto, using(crate::proofs::Numbers::told_number))]
+    #[tactic(auto, using(crate::proofs::Fitting::told_number))]
     pub(crate) fn number(alloc: Global, number: Boxed<NumExpr>) -> Result<Term, NoMemory>
         ensures told { IfOk result (λ r. (m : Reading) → Tells (value_in (option_map number_value (number_of number m))) r m) }
         ensures sorted { IfOk result (λ r. (p : Posed) (kinds : Kinds) → IsTrue (is_sorted_number p kinds number) → IsSortedTerm p kinds r) }
@@ -69,7 +69,7 @@ impl Term {
     }
 
     /// A number as it is written.
-    #[tactic(auto, using(crate::proofs::Numbers::told_fitting))]
+    #[tactic(auto, using(crate::proofs::Fitting::told_fitting))]
     pub fn literal(alloc: Global, number: i32) -> Result<Term, NoMemory>
         ensures told { IfOk result (λ r. (m : Reading) → Tells (number_lem m.ints number) r m) }
         ensures sorted { IfOk result (λ r. (p : Posed) (kinds : Kinds) → IsSortedTerm p kinds r) }

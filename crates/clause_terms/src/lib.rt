@@ -4,6 +4,7 @@
 mod after;
 mod copies;
 mod leaves;
+mod numbers;
 mod reads;
 mod term;
 mod truths;

@@ -1,0 +1,15 @@
+use Rattle.std.proofs.Common.{rules}
+use Rattle.std.proofs.Common.{◌≡◌, true, false, not, refl, sym, ap, ◌∙◌, subst}
+use Rattle.std.specs.Prelude.{◌+ℤ◌, ◌-ℤ◌, ◌*ℤ◌, int_lt, int_le}
+use Rattle.std.specs.Ordering.{int_eq}
+use Rattle.taco_unit.specs.declared.expr.Op.TheVariants as o
+use Rattle.heap_core.specs.Outcomes.{operated}
+use Rattle.clause_terms.specs.Terms.{Tells}
+use Rattle.clause_terms.proofs.NumberTerms.{told_negated, told_arithmetic, told_comparison, both_given, not_below, turned, told_equivalent}
+use Rattle.clause_terms.proofs.numbers.product.Goals as goal
+
+pub returns-clause-told : goal.returns-clause-told
+returns-clause-told c m v u a b = told_arithmetic m o.Mul (λ z w. z *ℤ w) c.args.x c.args.y c.in_ok-made.made _ v u (λ z w. refl) (c.in_ok-made.ensures.meaning m) (c.in_ok-term.ensures.told m) a b
+
+pub returns-clause-sorted : goal.returns-clause-sorted
+returns-clause-sorted c p kinds x y = c.in_ok-term.ensures.sorted p kinds (c.in_ok-made.ensures.sorted p kinds x y)
