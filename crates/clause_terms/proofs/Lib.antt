@@ -1,6 +1,8 @@
 pub mod Outcomes
 pub mod Flags
+pub mod Settled
 pub mod Only
 pub mod Fitting
 pub mod NumberTerms
+pub mod Mixed
 pub mod FieldTerms

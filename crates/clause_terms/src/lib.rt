@@ -3,10 +3,13 @@
 
 mod after;
 mod copies;
+mod laws;
 mod leaves;
 mod numbers;
+mod operators;
 mod reads;
 mod term;
 mod truths;
 
 pub use term::{Shape, Term, Truth};
+pub use laws::{chains_go_right, flags_settle};
