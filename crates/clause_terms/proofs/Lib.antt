@@ -1,6 +1,7 @@
 pub mod Outcomes
 pub mod Flags
 pub mod Settled
+pub mod Quantified
 pub mod Only
 pub mod Fitting
 pub mod NumberTerms

@@ -3,6 +3,7 @@
 
 mod after;
 mod copies;
+mod instances;
 mod laws;
 mod leaves;
 mod numbers;
@@ -12,4 +13,5 @@ mod term;
 mod truths;
 
 pub use term::{Shape, Term, Truth};
+pub use instances::Instances;
 pub use laws::{chains_go_right, flags_settle};

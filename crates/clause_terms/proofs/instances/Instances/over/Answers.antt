@@ -1,0 +1,12 @@
+use Rattle.std.proofs.Common.{rules}
+use Rattle.std.proofs.Common.{◌≡◌, true, false, not, refl, sym, ap, ◌∙◌, subst}
+use Rattle.rel_core.specs.Meaning.{holds}
+use Rattle.rel_core.specs.Uses.{is_sorted}
+use Rattle.clause_terms.proofs.Quantified.{gathered_more, told_over, all_last}
+use Rattle.clause_terms.proofs.instances.Instances.over.Goals as goal
+
+pub returns-clause-told : goal.returns-clause-told
+returns-clause-told c m domain instance n settled g = told_over domain instance settled m c.args.all n c.args.instances c.in_ok-fine.fine c.in_ok-inside.inside c.in_ok-value.value g (c.in_ok-fine.ensures.meaning m) (c.in_ok-inside.ensures.meaning m) (c.in_ok-value.ensures.meaning m)
+
+pub returns-clause-sorted : goal.returns-clause-sorted
+returns-clause-sorted c p kinds i = record { value = c.in_ok-value.ensures.sorted p kinds i.values; fine = c.in_ok-fine.ensures.sorted p kinds i.fine; inside = c.in_ok-inside.ensures.sorted p kinds i.inside }
