@@ -6,4 +6,5 @@ pub mod Only
 pub mod Fitting
 pub mod NumberTerms
 pub mod Mixed
+pub mod Reached
 pub mod FieldTerms

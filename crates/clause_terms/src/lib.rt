@@ -8,6 +8,7 @@ mod laws;
 mod leaves;
 mod numbers;
 mod operators;
+mod reach;
 mod reads;
 mod term;
 mod truths;

@@ -1,0 +1,18 @@
+use Rattle.std.proofs.Common.{rules}
+use Rattle.std.proofs.Common.{◌≡◌, true, false, refl, sym, ap, ◌∙◌, subst}
+use Rattle.std.specs.List.{list_all}
+use Rattle.heap_core.specs.Eval.{has, size}
+use Rattle.heap_core.specs.Outcomes.{with_value}
+use Rattle.rel_core.specs.Meaning.{objects_only, reached_from, set_of}
+use Rattle.rel_core.specs.Uses.{AsSet, is_spread}
+use Rattle.clause_terms.specs.declared.term.Shape.TheVariants as shape
+use Rattle.clause_terms.specs.Terms.{HasValue, Tells, is_sorted_shape}
+use Rattle.clause_terms.proofs.Outcomes.{on_value}
+use Rattle.clause_terms.proofs.Reached.{told_has, told_size, has_no_root, has_no_member, size_no_root}
+use Rattle.clause_terms.proofs.reach.size_of_reference.Goals as goal
+
+pub returns-clause-told : goal.returns-clause-told
+returns-clause-told c m env fields v alike one = told_size m c.args.relations.now env fields c.args.root (set_of c.in_ok-all.all m) c.in_ok-count.count _ v alike (c.in_ok-all.ensures.meaning m) (c.in_ok-count.ensures.meaning m) (c.in_ok-term.ensures.told m) one
+
+pub returns-clause-sorted : goal.returns-clause-sorted
+returns-clause-sorted c p kinds root relations = c.in_ok-term.ensures.sorted p kinds (c.in_ok-count.ensures.sorted p kinds (c.in_ok-all.ensures.sorted p kinds root relations))
