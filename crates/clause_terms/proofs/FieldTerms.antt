@@ -1,17 +1,18 @@
 -- Terms of fields.
 use Rattle.std.proofs.Common.{◌≡◌, ℕ, Bool, true, false, not, ◌&&◌, ◌||◌, [], ◌∷◌, refl, sym, ap, subst, ◌∙◌}
-use Rattle.std.specs.Prelude.{pos, Option, Some, None, option_map}
+use Rattle.std.specs.Prelude.{List, pos, Option, Some, None, option_map}
 use Rattle.std.specs.Ordering.{int_eq}
 use Rattle.std.specs.List.{list_all, list_any}
 use Rattle.std.specs.Option.{option_map_or}
 use Rattle.std.proofs.lemmas.Bool.{false≢true}
+use Rattle.taco_unit.specs.declared.unit.ClassDef.{ClassDef}
 use Rattle.taco_unit.specs.declared.unit.FieldDef.{FieldDef}
 use Rattle.taco_unit.specs.Parts.{Parts}
 use Rattle.heap_core.specs.declared.value.Value.{Value}
 use Rattle.heap_core.specs.declared.value.Value.TheVariants.{Null, Obj, Num, Flag}
 use Rattle.heap_core.specs.declared.value.Seen.{Seen}
 use Rattle.heap_core.specs.declared.value.Seen.TheVariants.{Is, Bad, Out}
-use Rattle.heap_core.specs.Outcomes.{is_bad, is_out, is_value}
+use Rattle.heap_core.specs.Outcomes.{is_bad, is_out, is_null, is_object, is_value}
 use Rattle.heap_core.specs.Heap.{Heap, field}
 use Rattle.rel_core.specs.declared.relation.RelVar.{RelVar}
 use Rattle.rel_core.specs.declared.indices.Indices.{Indices}
@@ -21,6 +22,7 @@ use Rattle.rel_core.specs.Shown.{ShowsValue, ShowsCell, class_relation, field_re
 use Rattle.rel_core.specs.Laws.{FieldIsShown, is_of_shown}
 use Rattle.clause_terms.specs.declared.term.Term.{Term}
 use Rattle.clause_terms.specs.Terms.{IsOnly, HasValue, OnValue, Tells, gives_value}
+use Rattle.clause_terms.specs.Fields.{FieldIsLacking}
 use Rattle.clause_terms.proofs.Only.{numbers_of, only_one, joined_one, class_one}
 
 -- ## what a relation has at the object of a set
@@ -81,3 +83,37 @@ told_read u m at heap f d t s (Obj o) live of shown one live_is of_is fine insid
     told_there u m at heap f d shown t o (λ w. value o w one) live of (sym live_here) (sym class) fine inside
 told_read u m at heap f d t s (Num z) live of shown one live_is of_is fine inside value = absurd (false≢true one.reference)
 told_read u m at heap f d t s (Flag b) live of shown one live_is of_is fine inside value = absurd (false≢true one.reference)
+
+-- ## a field that no class declares
+
+pub told_lacking : (classes : List ClassDef) (m : Reading) (at : Indices) (heap : Heap) (f : ℕ) (t : Term) (s : ValueSet) (v : Value) (live : Bool)
+    → FieldIsLacking classes m at heap f → IsOnly m s v
+    → live ≡ option_map_or (m.flag (live_relation at)) (only_object m s) false
+    → holds t.fine m ≡ false → holds t.inside m ≡ not live
+    → Tells (field classes heap f v) t m
+told_lacking classes m at heap f t s Null live lacks one live_is fine inside =
+    let dead : live ≡ false = live_is ∙ ap (λ p. option_map_or (m.flag (live_relation at)) p false) (only_one m s Null one) in
+    record { fine = fine; inside = inside ∙ ap not dead; value = tt }
+told_lacking classes m at heap f t s (Obj o) live lacks one live_is fine inside =
+    go (field classes heap f (Obj o)) (lacks.lacking o) (lacks.missing o)
+  where
+    go : (r : Seen) → gives_value r ≡ false → is_bad r ≡ not (m.flag (live_relation at) o) → Tells r t m
+    go (Is v) none bad = absurd (false≢true (sym none))
+    go Bad none bad = record { fine = fine; inside = inside ∙ ap not (live_is ∙ flag_at_object m s o (live_relation at) one) ∙ sym bad; value = tt }
+    go Out none bad = record { fine = fine; inside = inside ∙ ap not (live_is ∙ flag_at_object m s o (live_relation at) one) ∙ sym bad; value = tt }
+told_lacking classes m at heap f t s (Num z) live lacks one live_is fine inside = absurd (false≢true one.reference)
+told_lacking classes m at heap f t s (Flag b) live lacks one live_is fine inside = absurd (false≢true one.reference)
+
+-- ## the values of references
+
+pub null_exact : (u : Value) → is_null u ≡ is_value Null u
+null_exact Null = refl
+null_exact (Obj o) = refl
+null_exact (Num z) = refl
+null_exact (Flag b) = refl
+
+pub object_exact : (o : ℕ) (u : Value) → is_object o u ≡ is_value (Obj o) u
+object_exact o Null = refl
+object_exact o (Obj p) = refl
+object_exact o (Num z) = refl
+object_exact o (Flag b) = refl

@@ -8,3 +8,4 @@ pub mod NumberTerms
 pub mod Mixed
 pub mod Reached
 pub mod FieldTerms
+pub mod Lacking

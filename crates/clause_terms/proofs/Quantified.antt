@@ -85,21 +85,21 @@ module _ (m : Reading) (domain : ℕ → Bool) (instance : ℕ → Seen) (n : �
       → Gathered m all domain instance n old → Gathered m all domain instance (n + 1) new
   gathered_more all old new fine inside value fines insides values is_fine is_inside is_value before = record {
     fine = ap (λ fs. all_hold fs m) fines ∙ all_last (λ f. holds f m) old.fine fine ∙ ap (λ b. b && holds fine m) before.fine
-      ∙ ap (λ b. all_fine domain instance n && b) (is_fine ∙ ap (λ b. not b || holds t.fine m) at ∙ ap (λ b. not (domain n) || b) judged.fine)
-      ∙ sym (all_more (λ o. not (domain o) || gives_flag (instance o)) n);
+        ∙ ap (λ b. all_fine domain instance n && b) (is_fine ∙ ap (λ b. not b || holds t.fine m) at ∙ ap (λ b. not (domain n) || b) judged.fine)
+        ∙ sym (all_more (λ o. not (domain o) || gives_flag (instance o)) n);
     inside = ap (λ fs. all_hold fs m) insides ∙ all_last (λ f. holds f m) old.inside inside ∙ ap (λ b. b && holds inside m) before.inside
-      ∙ ap (λ b. all_inside domain instance n && b) (is_inside ∙ ap (λ b. not b || holds t.inside m) at ∙ ap (λ b. not (domain n) || b) judged.inside)
-      ∙ sym (all_more (λ o. not (domain o) || not (is_out (as_flag (instance o)))) n);
+        ∙ ap (λ b. all_inside domain instance n && b) (is_inside ∙ ap (λ b. not b || holds t.inside m) at ∙ ap (λ b. not (domain n) || b) judged.inside)
+        ∙ sym (all_more (λ o. not (domain o) || not (is_out (as_flag (instance o)))) n);
     every = λ is given.
-      let parts = and_parts (all_fine domain instance n) (not (domain n) || gives_flag (instance n)) (sym (all_more (λ o. not (domain o) || gives_flag (instance o)) n) ∙ given) in
-      ap (λ fs. all_hold fs m) values ∙ all_last (λ f. holds f m) old.values value ∙ ap (λ b. b && holds value m) (before.every is parts.0)
-      ∙ ap (λ b. all_true domain instance n && b) (is_value ∙ ap (λ a. if a then (not guard || holds t.value m) else (guard && holds t.value m)) is ∙ every_value parts.1)
-      ∙ sym (all_more (λ o. not (domain o) || is_true (instance o)) n);
+        let parts = and_parts (all_fine domain instance n) (not (domain n) || gives_flag (instance n)) (sym (all_more (λ o. not (domain o) || gives_flag (instance o)) n) ∙ given) in
+        ap (λ fs. all_hold fs m) values ∙ all_last (λ f. holds f m) old.values value ∙ ap (λ b. b && holds value m) (before.every is parts.0)
+        ∙ ap (λ b. all_true domain instance n && b) (is_value ∙ ap (λ a. if a then (not guard || holds t.value m) else (guard && holds t.value m)) is ∙ every_value parts.1)
+        ∙ sym (all_more (λ o. not (domain o) || is_true (instance o)) n);
     some = λ is given.
-      let parts = and_parts (all_fine domain instance n) (not (domain n) || gives_flag (instance n)) (sym (all_more (λ o. not (domain o) || gives_flag (instance o)) n) ∙ given) in
-      ap (λ fs. some_hold fs m) values ∙ any_last (λ f. holds f m) old.values value ∙ ap (λ b. b || holds value m) (before.some is parts.0)
-      ∙ ap (λ b. some_true domain instance n || b) (is_value ∙ ap (λ a. if a then (not guard || holds t.value m) else (guard && holds t.value m)) is ∙ some_value parts.1)
-      ∙ sym (any_more (λ o. domain o && is_true (instance o)) n);
+        let parts = and_parts (all_fine domain instance n) (not (domain n) || gives_flag (instance n)) (sym (all_more (λ o. not (domain o) || gives_flag (instance o)) n) ∙ given) in
+        ap (λ fs. some_hold fs m) values ∙ any_last (λ f. holds f m) old.values value ∙ ap (λ b. b || holds value m) (before.some is parts.0)
+        ∙ ap (λ b. some_true domain instance n || b) (is_value ∙ ap (λ a. if a then (not guard || holds t.value m) else (guard && holds t.value m)) is ∙ some_value parts.1)
+        ∙ sym (any_more (λ o. domain o && is_true (instance o)) n);
   }
 
 -- ## all instances
@@ -146,10 +146,10 @@ module _ (domain : ℕ → Bool) (instance : ℕ → Seen) (settled : (o : ℕ) 
       → Tells (over all domain instance n) (record { value = shape.Truth value; fine = fine; inside = inside }) m
   told_over m all n i fine inside value g is_fine is_inside is_value =
       go (list_any (λ o. domain o && is_out (instance o)) (numbers_below n)) (list_any (λ o. domain o && is_bad (instance o)) (numbers_below n)) all
-        (is_fine ∙ g.fine ∙ fine_all (numbers_below n)) (is_inside ∙ g.inside ∙ inside_all (numbers_below n))
-        (λ f is. is_value ∙ ap (λ a. if a then all_hold i.values m else some_hold i.values m) is ∙ g.every is (sym (is_fine ∙ g.fine) ∙ f))
-        (λ f is. is_value ∙ ap (λ a. if a then all_hold i.values m else some_hold i.values m) is ∙ g.some is (sym (is_fine ∙ g.fine) ∙ f))
-        refl
+      (is_fine ∙ g.fine ∙ fine_all (numbers_below n)) (is_inside ∙ g.inside ∙ inside_all (numbers_below n))
+      (λ f is. is_value ∙ ap (λ a. if a then all_hold i.values m else some_hold i.values m) is ∙ g.every is (sym (is_fine ∙ g.fine) ∙ f))
+      (λ f is. is_value ∙ ap (λ a. if a then all_hold i.values m else some_hold i.values m) is ∙ g.some is (sym (is_fine ∙ g.fine) ∙ f))
+      refl
     where
       go : (out bad a : Bool) → holds fine m ≡ (not out && not bad) → holds inside m ≡ not out
           → (holds fine m ≡ true → all ≡ true → holds value m ≡ all_true domain instance n)

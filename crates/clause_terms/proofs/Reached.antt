@@ -90,7 +90,7 @@ pub told_size : (m : Reading) (rs : List RelVar) (env : Env) (fields : List ℕ)
 told_size m rs env fields root all n t v alike all_is n_is told one =
     let counted : count_by (has_object all) (numbers_below m.objects) ≡ count_by (reached env fields v) (range_with_len 0 env.objects) =
     count_alike (has_object all) (reached env fields v) (numbers_below m.objects) (λ o. ap (λ s. s (Obj o)) all_is ∙ reached_alike m rs env fields (set_of root m) v o alike one)
-      ∙ ap (λ k. count_by (reached env fields v) (range_with_len 0 k)) alike.objects
+    ∙ ap (λ k. count_by (reached env fields v) (range_with_len 0 k)) alike.objects
     in
     let here : number m.ints (pos (count_by (has_object all) (numbers_below m.objects))) ≡ size env fields v =
     ap (λ w. number w (pos (count_by (has_object all) (numbers_below m.objects)))) alike.ints ∙ ap (λ c. number env.ints (pos c)) counted ∙ sym (size_is env fields m (set_of root m) v one)

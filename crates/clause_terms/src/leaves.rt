@@ -18,11 +18,32 @@ use sqlite_items::Boxed;
 use std::alloc::Global;
 use taco_unit::Kind;
 
+/// What a relation has at place 0, by its kind.
+fn slot(alloc: Global, kind: Kind, relation: RelVar) -> Result<Shape, NoMemory>
+    ensures value { IfOk result (λ r. (m : Reading) (v : Value) → ShowsValue m kind relation 0 v → HasValue m r v) }
+    ensures sorted { IfOk result (λ r. (p : Posed) (kinds : Kinds) → IsTrue (is_variable p kinds (use_of_kind kind) relation) → IsTrue (is_sorted_shape p kinds r)) }
+{
+    match kind {
+        Kind::Int => {
+            let number = NumExpr::variable(alloc, relation)?;
+            Ok(Shape::Number(number))
+        }
+        Kind::Flag => {
+            let truth = Formula::flag(alloc, relation)?;
+            Ok(Shape::Truth(truth))
+        }
+        Kind::Ref(_) => {
+            let set = RelExpr::variable(alloc, relation)?;
+            Ok(Shape::Set(set))
+        }
+    }
+}
+
 /// The parts of clauses that evaluate nothing else. Each call is constant in time, but for the copies of what
 /// it is given, and its result is sorted where the relations are used by their kinds.
 impl Term {
     /// A value, where there always is one.
-    
+
     pub(crate) fn sure(alloc: Global, value: Shape) -> Result<Term, NoMemory>
         ensures told { IfOk result (λ r. (m : Reading) (v : Value) → HasValue m value v → Tells (Is v) r m) }
         ensures sorted { IfOk result (λ r. (p : Posed) (kinds : Kinds) → IsTrue (is_sorted_shape p kinds value) → IsSortedTerm p kinds r) }
@@ -124,20 +145,7 @@ impl Term {
         ensures told { IfOk result (λ r. (m : Reading) (v : Value) → ShowsValue m kind relation 0 v → Tells (Is v) r m) }
         ensures sorted { IfOk result (λ r. (p : Posed) (kinds : Kinds) → IsTrue (is_variable p kinds (use_of_kind kind) relation) → IsSortedTerm p kinds r) }
     {
-        let value = match kind {
-            Kind::Int => {
-                let number = NumExpr::variable(alloc, relation)?;
-                Shape::Number(number)
-            }
-            Kind::Flag => {
-                let truth = Formula::flag(alloc, relation)?;
-                Shape::Truth(truth)
-            }
-            Kind::Ref(_) => {
-                let set = RelExpr::variable(alloc, relation)?;
-                Shape::Set(set)
-            }
-        };
+        let value = slot(alloc, kind, relation)?;
         let term = Term::sure(alloc, value)?;
         Ok(term)
     }

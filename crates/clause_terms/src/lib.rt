@@ -13,6 +13,6 @@ mod reads;
 mod term;
 mod truths;
 
-pub use term::{Shape, Term, Truth};
 pub use instances::Instances;
-pub use laws::{chains_go_right, flags_settle};
+pub use laws::{chains_go_right, flags_settle, other_fields_are_lacking};
+pub use term::{Shape, Term, Truth};

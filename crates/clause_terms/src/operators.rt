@@ -33,12 +33,7 @@ fn one_reference(
 }
 
 /// What an operator makes of two references.
-fn on_sets(
-    alloc: Global,
-    op: Op,
-    x: Boxed<RelExpr>,
-    y: Boxed<RelExpr>,
-) -> Result<Term, NoMemory>
+fn on_sets(alloc: Global, op: Op, x: Boxed<RelExpr>, y: Boxed<RelExpr>) -> Result<Term, NoMemory>
     ensures told { IfOk result (λ r. (m : Reading) (v u : Value) → HasValue m (set_shape x) v → HasValue m (set_shape y) u → Tells (operated op m.ints v u) r m) }
     ensures sorted { IfOk result (λ r. (p : Posed) (kinds : Kinds) → IsTrue (is_sorted_set p kinds x) → IsTrue (is_sorted_set p kinds y) → IsSortedTerm p kinds r) }
 {
@@ -62,12 +57,7 @@ fn on_sets(
 }
 
 /// What an operator makes of two truth values.
-fn on_truths(
-    alloc: Global,
-    op: Op,
-    x: Boxed<Formula>,
-    y: Boxed<Formula>,
-) -> Result<Term, NoMemory>
+fn on_truths(alloc: Global, op: Op, x: Boxed<Formula>, y: Boxed<Formula>) -> Result<Term, NoMemory>
     ensures told { IfOk result (λ r. (m : Reading) (v u : Value) → HasValue m (truth_shape x) v → HasValue m (truth_shape y) u → Tells (operated op m.ints v u) r m) }
     ensures sorted { IfOk result (λ r. (p : Posed) (kinds : Kinds) → IsTrue (is_sorted p kinds x) → IsTrue (is_sorted p kinds y) → IsSortedTerm p kinds r) }
 {
@@ -117,12 +107,7 @@ fn beside_set(alloc: Global, op: Op, x: Boxed<RelExpr>, right: Shape) -> Result<
 }
 
 /// What an operator makes of a number and a value.
-fn beside_number(
-    alloc: Global,
-    op: Op,
-    x: Boxed<NumExpr>,
-    right: Shape,
-) -> Result<Term, NoMemory>
+fn beside_number(alloc: Global, op: Op, x: Boxed<NumExpr>, right: Shape) -> Result<Term, NoMemory>
     ensures told { IfOk result (λ r. (m : Reading) (v u : Value) → HasValue m (number_shape x) v → HasValue m right u → Tells (operated op m.ints v u) r m) }
     ensures sorted { IfOk result (λ r. (p : Posed) (kinds : Kinds) → IsTrue (is_sorted_number p kinds x) → IsTrue (is_sorted_shape p kinds right) → IsSortedTerm p kinds r) }
 {

@@ -1,5 +1,6 @@
-ghost use Rattle.std.specs.Prelude.{◌≡◌, ◌&&◌, ◌||◌, not, ℕ, IfOk, IsTrue, false};
+ghost use Rattle.std.specs.Prelude.{◌≡◌, ◌&&◌, ◌||◌, not, ℕ, List, IfOk, IsTrue, false};
 ghost use Rattle.std.specs.Option.{option_map_or};
+ghost use Rattle.taco_unit.specs.declared.unit.ClassDef.{ClassDef};
 ghost use Rattle.taco_unit.specs.Parts.{Parts};
 ghost use Rattle.heap_core.specs.declared.value.Value.{Value};
 ghost use Rattle.heap_core.specs.declared.value.Value.TheVariants.{Obj as object_of};
@@ -26,12 +27,7 @@ use taco_unit::{FieldDef, Kind};
 
 /// What a relation has at the object of a set, by its kind.
 #[tactic(auto, using(crate::proofs::FieldTerms::at_object))]
-fn cell(
-    alloc: Global,
-    set: Boxed<RelExpr>,
-    kind: Kind,
-    relation: RelVar,
-) -> Result<Shape, NoMemory>
+fn cell(alloc: Global, set: Boxed<RelExpr>, kind: Kind, relation: RelVar) -> Result<Shape, NoMemory>
     ensures value { IfOk result (λ r. (m : Reading) (o : ℕ) (v : Value) → IsOnly m (set_of set m) (object_of o) → ShowsValue m kind relation o v → HasValue m r v) }
     ensures sorted { IfOk result (λ r. (p : Posed) (kinds : Kinds) → IsTrue (is_sorted_set p kinds set) → IsTrue (is_spread p kinds (use_of_kind kind) relation) → IsTrue (is_sorted_shape p kinds r)) }
 {
@@ -52,11 +48,7 @@ fn cell(
 }
 
 /// The object of a set is there. The set is copied.
-fn is_there(
-    alloc: Global,
-    set: &Boxed<RelExpr>,
-    at: &Indices,
-) -> Result<Boxed<Formula>, NoMemory>
+fn is_there(alloc: Global, set: &Boxed<RelExpr>, at: &Indices) -> Result<Boxed<Formula>, NoMemory>
     ensures meaning { IfOk result (λ r. (m : Reading) → holds r m ≡ option_map_or (m.flag (live_relation at.now)) (only_object m (set_of set.now m)) false) }
     ensures sorted { IfOk result (λ r. (p : Posed) (kinds : Kinds) → IsTrue (is_sorted_set p kinds set.now) → IsTrue (is_sorted p kinds r)) }
 {
@@ -147,6 +139,43 @@ fn read_value(
     }
 }
 
+/// A field that no class declares, of the reference that a set has.
+fn lacking_set(alloc: Global, set: Boxed<RelExpr>, at: &Indices) -> Result<Term, NoMemory>
+    ensures told { IfOk result (λ r. (classes : List ClassDef) (m : Reading) (heap : Heap) (f : ℕ) (v : Value) → FieldIsLacking classes m at.now heap f → IsOnly m (set_of set m) v → Tells (field_lem classes heap f v) r m) }
+    ensures sorted { IfOk result (λ r. (p : Posed) (kinds : Kinds) → IsTrue (is_sorted_set p kinds set) → IsSortedTerm p kinds r) }
+{
+    let live = is_there(alloc, &set, at)?;
+    let inside = Formula::not(alloc, live)?;
+    let fine = Formula::constant(alloc, false)?;
+    let value = Formula::constant(alloc, false)?;
+    Ok(Term {
+        value: Shape::Truth(value),
+        fine,
+        inside,
+    })
+}
+
+/// A field that no class declares, of a value.
+fn lacking_value(alloc: Global, value: Shape, at: &Indices) -> Result<Term, NoMemory>
+    ensures told { IfOk result (λ r. (classes : List ClassDef) (m : Reading) (heap : Heap) (f : ℕ) (v : Value) → FieldIsLacking classes m at.now heap f → HasValue m value v → Tells (field_lem classes heap f v) r m) }
+    ensures sorted { IfOk result (λ r. (p : Posed) (kinds : Kinds) → IsTrue (is_sorted_shape p kinds value) → IsSortedTerm p kinds r) }
+{
+    match value {
+        Shape::Set(set) => {
+            let term = lacking_set(alloc, set, at)?;
+            Ok(term)
+        }
+        Shape::Number(_) => {
+            let term = Term::missing(alloc)?;
+            Ok(term)
+        }
+        Shape::Truth(_) => {
+            let term = Term::missing(alloc)?;
+            Ok(term)
+        }
+    }
+}
+
 impl Term {
     /// A field of an object: Bad at null and at an object that is not there, and Out at one of another class than
     /// the one that declares the field.
@@ -166,6 +195,21 @@ impl Term {
             inside,
         } = object;
         let then = read_value(alloc, value, at, field, declared)?;
+        let read = after(alloc, fine, inside, then)?;
+        Ok(read)
+    }
+
+    /// A field that no class declares: Bad at null and at an object that is not there, and else Out.
+    pub fn read_lacking(alloc: Global, object: Term, at: &Indices) -> Result<Term, NoMemory>
+        ensures told { IfOk result (λ r. (classes : List ClassDef) (m : Reading) (heap : Heap) (f : ℕ) (x : Seen) → FieldIsLacking classes m at.now heap f → Tells x object m → Tells (with_value x (field_lem classes heap f)) r m) }
+        ensures sorted { IfOk result (λ r. (p : Posed) (kinds : Kinds) → IsSortedTerm p kinds object → IsSortedTerm p kinds r) }
+    {
+        let Term {
+            value,
+            fine,
+            inside,
+        } = object;
+        let then = lacking_value(alloc, value, at)?;
         let read = after(alloc, fine, inside, then)?;
         Ok(read)
     }

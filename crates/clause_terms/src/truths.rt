@@ -42,12 +42,7 @@ fn no_truth(alloc: Global, fine: Boxed<Formula>, inside: Boxed<Formula>) -> Resu
 }
 
 /// The right operand counts where the left one is given and the formula `when` holds.
-fn lazy(
-    alloc: Global,
-    left: Ends,
-    when: &Boxed<Formula>,
-    right: Ends,
-) -> Result<Ends, NoMemory>
+fn lazy(alloc: Global, left: Ends, when: &Boxed<Formula>, right: Ends) -> Result<Ends, NoMemory>
     ensures fine { IfOk result (λ r. (m : Reading) → holds r.fine m ≡ (holds left.fine m && (not (holds when.now m) || holds right.fine m))) }
     ensures inside { IfOk result (λ r. (m : Reading) → holds r.inside m ≡ (holds left.inside m && (not (holds left.fine m) || (not (holds when.now m) || holds right.inside m)))) }
     ensures sorted { IfOk result (λ r. (p : Posed) (kinds : Kinds) → IsTrue (is_sorted p kinds left.fine) → IsTrue (is_sorted p kinds left.inside) → IsTrue (is_sorted p kinds when.now) → IsTrue (is_sorted p kinds right.fine) → IsTrue (is_sorted p kinds right.inside) → IsTrue (is_sorted p kinds r.fine) × IsTrue (is_sorted p kinds r.inside)) }

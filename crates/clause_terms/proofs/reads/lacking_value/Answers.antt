@@ -1,0 +1,22 @@
+use Rattle.std.proofs.Common.{rules}
+use Rattle.std.proofs.Common.{◌≡◌, true, refl, sym, ap, ◌∙◌, subst}
+use Rattle.heap_core.specs.declared.value.Value.TheVariants.{Null, Obj, Flag}
+use Rattle.heap_core.specs.Heap.{field}
+use Rattle.rel_core.specs.Meaning.{holds, number_of, set_of}
+use Rattle.clause_terms.specs.Terms.{IsOnly, HasValue, Tells, is_sorted_shape}
+use Rattle.clause_terms.proofs.Outcomes.{on_value}
+use Rattle.clause_terms.proofs.Fitting.{told_fitting}
+use Rattle.clause_terms.proofs.FieldTerms.{null_exact, object_exact, told_lacking}
+use Rattle.clause_terms.proofs.reads.lacking_value.Goals as goal
+
+pub returns-in-Set-clause-told : goal.returns-in-Set-clause-told
+returns-in-Set-clause-told c classes m heap f v lacks has = c.in_ok-term-in-Set.ensures.told classes m heap f v lacks (subst (λ s. HasValue m s v) c.in-Set.is has)
+
+pub returns-in-Set-clause-sorted : goal.returns-in-Set-clause-sorted
+returns-in-Set-clause-sorted c p kinds value = c.in_ok-term-in-Set.ensures.sorted p kinds (subst (λ s. is_sorted_shape p kinds s ≡ true) c.in-Set.is value)
+
+pub returns-in-Number-clause-sorted : goal.returns-in-Number-clause-sorted
+returns-in-Number-clause-sorted c p kinds value = c.in_ok-term-in-Number.ensures.sorted p kinds
+
+pub returns-clause-sorted : goal.returns-clause-sorted
+returns-clause-sorted c p kinds value = c.in_ok-term-in-Truth.ensures.sorted p kinds
