@@ -1,8 +1,7 @@
 -- Terms of fields.
-use Rattle.std.proofs.Common.{◌≡◌, ℕ, Bool, true, false, not, ◌&&◌, ◌||◌, [], ◌∷◌, refl, sym, ap, subst, ◌∙◌}
-use Rattle.std.specs.Prelude.{List, pos, Option, Some, None, option_map}
+use Rattle.std.proofs.Common.{◌≡◌, ℕ, Bool, true, false, not, ◌&&◌, ◌||◌, refl, sym, ap, subst, ◌∙◌}
+use Rattle.std.specs.Prelude.{List, pos}
 use Rattle.std.specs.Ordering.{int_eq}
-use Rattle.std.specs.List.{list_all, list_any}
 use Rattle.std.specs.Option.{option_map_or}
 use Rattle.std.proofs.lemmas.Bool.{false≢true}
 use Rattle.taco_unit.specs.declared.unit.ClassDef.{ClassDef}
@@ -12,18 +11,18 @@ use Rattle.heap_core.specs.declared.value.Value.{Value}
 use Rattle.heap_core.specs.declared.value.Value.TheVariants.{Null, Obj, Num, Flag}
 use Rattle.heap_core.specs.declared.value.Seen.{Seen}
 use Rattle.heap_core.specs.declared.value.Seen.TheVariants.{Is, Bad, Out}
-use Rattle.heap_core.specs.Outcomes.{is_bad, is_out, is_null, is_object, is_value}
+use Rattle.heap_core.specs.Outcomes.{is_bad, is_null, is_object, is_value}
 use Rattle.heap_core.specs.Heap.{Heap, field}
 use Rattle.rel_core.specs.declared.relation.RelVar.{RelVar}
 use Rattle.rel_core.specs.declared.indices.Indices.{Indices}
 use Rattle.rel_core.specs.Reading.{Reading}
-use Rattle.rel_core.specs.Meaning.{ValueSet, joined, only, only_object, are_of, holds}
-use Rattle.rel_core.specs.Shown.{ShowsValue, ShowsCell, class_relation, field_relation, live_relation}
-use Rattle.rel_core.specs.Laws.{FieldIsShown, is_of_shown}
+use Rattle.rel_core.specs.Meaning.{ValueSet, joined, only_object, are_of, holds}
+use Rattle.rel_core.specs.Shown.{ShowsValue, class_relation, field_relation, live_relation}
+use Rattle.rel_core.specs.Laws.{FieldIsShown}
 use Rattle.clause_terms.specs.declared.term.Term.{Term}
-use Rattle.clause_terms.specs.Terms.{IsOnly, HasValue, OnValue, Tells, gives_value}
+use Rattle.clause_terms.specs.Terms.{IsOnly, HasValue, Tells, gives_value}
 use Rattle.clause_terms.specs.Fields.{FieldIsLacking}
-use Rattle.clause_terms.proofs.Only.{numbers_of, only_one, joined_one, class_one}
+use Rattle.clause_terms.proofs.Only.{only_one, joined_one, class_one}
 
 -- ## what a relation has at the object of a set
 

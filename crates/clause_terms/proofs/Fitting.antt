@@ -1,7 +1,6 @@
 -- Terms of numbers.
-use Rattle.std.proofs.Common.{◌≡◌, ℕ, Bool, true, false, Option, Some, None, refl, sym, ap, ◌∙◌, subst}
+use Rattle.std.proofs.Common.{◌≡◌, ℕ, Bool, true, false, Option, Some, None, refl, ap, ◌∙◌, subst}
 use Rattle.std.specs.Prelude.{ℤ, option_map, is_some, if◌then◌else◌}
-use Rattle.heap_core.specs.declared.value.Value.{Value}
 use Rattle.heap_core.specs.declared.value.Value.TheVariants.{Num}
 use Rattle.heap_core.specs.declared.value.Seen.TheVariants.{Is, Out}
 use Rattle.heap_core.specs.Outcomes.{in_bits, number, value_in}
@@ -11,7 +10,7 @@ use Rattle.rel_core.specs.Reading.{Reading}
 use Rattle.rel_core.specs.Meaning.{fitting, number_of, holds}
 use Rattle.clause_terms.specs.declared.term.Shape.TheVariants as shape
 use Rattle.clause_terms.specs.declared.term.Term.{Term}
-use Rattle.clause_terms.specs.Terms.{HasValue, Tells}
+use Rattle.clause_terms.specs.Terms.{Tells}
 
 -- a number, where there is one
 pub told_number : (m : Reading) (n : NumExpr) (fine inside : Formula) → holds fine m ≡ is_some (number_of n m) → holds inside m ≡ is_some (number_of n m)

@@ -1,14 +1,12 @@
 -- What operators make of truth values and of outcomes.
-use Rattle.std.proofs.Common.{◌≡◌, ℕ, Bool, true, false, not, ◌&&◌, ◌||◌, refl, sym, ap, ◌∙◌, subst}
-use Rattle.std.specs.Prelude.{if◌then◌else◌, IsTrue, ℤ, Option, Some, None, option_map}
+use Rattle.std.proofs.Common.{◌≡◌, Bool, true, false, not, ◌&&◌, ◌||◌, refl, sym, ap, ◌∙◌, subst}
+use Rattle.std.specs.Prelude.{if◌then◌else◌, ℤ, Option, Some, None, option_map}
 use Rattle.std.proofs.lemmas.Bool.{false≢true}
-use Rattle.taco_unit.specs.declared.expr.Op.TheVariants as op
 use Rattle.heap_core.specs.declared.value.Value.{Value}
 use Rattle.heap_core.specs.declared.value.Value.TheVariants.{Null, Obj, Num, Flag}
 use Rattle.heap_core.specs.declared.value.Seen.{Seen}
 use Rattle.heap_core.specs.declared.value.Seen.TheVariants.{Is, Bad, Out}
-use Rattle.heap_core.specs.Outcomes.{is_out, is_true, value_in, flag, as_flag, with_flag, opposite, with_value}
-use Rattle.heap_core.specs.Eval.{binary}
+use Rattle.heap_core.specs.Outcomes.{is_out, is_true, value_in, flag, as_flag, with_flag}
 use Rattle.rel_core.specs.declared.formula.Formula.{Formula}
 use Rattle.rel_core.specs.declared.formula.Formula.TheVariants.{Const}
 use Rattle.rel_core.specs.Reading.{Reading}
@@ -18,7 +16,7 @@ use Rattle.clause_terms.specs.declared.term.Shape.{Shape}
 use Rattle.clause_terms.specs.declared.term.Shape.TheVariants as shape
 use Rattle.clause_terms.specs.declared.term.Term.{Term}
 use Rattle.clause_terms.specs.declared.term.Truth.{Truth}
-use Rattle.clause_terms.specs.Terms.{HasValue, Tells, Judges, OnValue, gives_flag, gives_value}
+use Rattle.clause_terms.specs.Terms.{HasValue, Tells, Judges, gives_flag}
 
 or_true : (b : Bool) → (b || true) ≡ true
 or_true true = refl

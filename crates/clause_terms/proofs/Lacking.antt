@@ -17,7 +17,7 @@ use Rattle.heap_core.specs.Heap.{Heap, place_of, cell, cell_of}
 use Rattle.heap_core.proofs.Lists.{all_at, all_filtered}
 use Rattle.rel_core.specs.declared.indices.Indices.{Indices}
 use Rattle.rel_core.specs.Reading.{Reading}
-use Rattle.rel_core.specs.Shown.{ShowsHeap, live_relation}
+use Rattle.rel_core.specs.Shown.{live_relation}
 use Rattle.clause_terms.specs.Terms.{gives_value}
 use Rattle.clause_terms.specs.Fields.{OtherFieldsAreLacking}
 

@@ -1,21 +1,20 @@
 -- Operators of references and of truth values, and of values of two kinds.
-use Rattle.std.proofs.Common.{◌≡◌, ℕ, Bool, true, false, not, Option, Some, None, refl, sym, ap, ◌∙◌, subst}
-use Rattle.std.specs.Prelude.{◌≢◌, ◌==◌, ℤ, option_map, is_some}
+use Rattle.std.proofs.Common.{◌≡◌, ℕ, Bool, false, refl, sym, ap, ◌∙◌, subst}
+use Rattle.std.specs.Prelude.{◌≢◌, ◌==◌, ℤ}
 use Rattle.std.proofs.lemmas.Bool.{false≢true}
 use Rattle.taco_unit.specs.declared.expr.Op.{Op}
 use Rattle.taco_unit.specs.declared.expr.Op.TheVariants as op
 use Rattle.heap_core.specs.declared.value.Value.{Value}
 use Rattle.heap_core.specs.declared.value.Value.TheVariants.{Null, Obj, Num, Flag}
 use Rattle.heap_core.specs.declared.value.Seen.{Seen}
-use Rattle.heap_core.specs.declared.value.Seen.TheVariants.{Is, Bad, Out}
+use Rattle.heap_core.specs.declared.value.Seen.TheVariants.{Out}
 use Rattle.heap_core.specs.Outcomes.{same, is_value, flag, opposite, with_value, on_numbers, equivalent, operated}
 use Rattle.rel_core.specs.declared.sets.RelExpr.{RelExpr}
 use Rattle.rel_core.specs.Reading.{Reading}
-use Rattle.rel_core.specs.Meaning.{ValueSet, set_of, number_of}
 use Rattle.clause_terms.specs.declared.term.Shape.{Shape}
 use Rattle.clause_terms.specs.declared.term.Shape.TheVariants as shape
 use Rattle.clause_terms.specs.declared.term.Term.{Term}
-use Rattle.clause_terms.specs.Terms.{IsOnly, HasValue, Tells}
+use Rattle.clause_terms.specs.Terms.{HasValue, Tells}
 use Rattle.clause_terms.proofs.NumberTerms.{has_number}
 
 -- ## an operator that gives nothing

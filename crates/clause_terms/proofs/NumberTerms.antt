@@ -1,18 +1,15 @@
 -- Operators of numbers.
-use Rattle.std.proofs.Common.{◌≡◌, ℕ, Bool, true, false, not, Option, Some, None, refl, sym, ap, ◌∙◌, subst, arith}
-use Rattle.std.specs.Prelude.{◌-◌, ◌^◌, ◌<◌, nat_lt, nat_le, if◌then◌else◌, ℤ, pos, negsuc, ◌+ℤ◌, ◌-ℤ◌, ◌*ℤ◌, neg_ℤ, int_lt, int_le, option_map, is_some}
-use Rattle.std.specs.Ordering.{int_eq}
+use Rattle.std.proofs.Common.{◌≡◌, ℕ, Bool, true, not, Option, Some, None, refl, sym, ap, ◌∙◌, subst, arith}
+use Rattle.std.specs.Prelude.{◌-◌, ◌^◌, ◌<◌, nat_lt, nat_le, if◌then◌else◌, ℤ, pos, negsuc, ◌-ℤ◌, neg_ℤ, int_lt, int_le, option_map, is_some}
 use Rattle.std.proofs.lemmas.Bool.{false≢true, lt-ltb}
 use Rattle.std.proofs.lemmas.Bool.Decides.{nat_tests}
 use Rattle.std.proofs.lemmas.Nat.{pow_pos}
 use Rattle.std.proofs.Math.IntN.{+ℤ_idl}
 use Rattle.taco_unit.specs.declared.expr.Op.{Op}
-use Rattle.taco_unit.specs.declared.expr.Op.TheVariants as o
 use Rattle.heap_core.specs.declared.value.Value.{Value}
-use Rattle.heap_core.specs.declared.value.Value.TheVariants.{Null, Obj, Num, Flag}
-use Rattle.heap_core.specs.declared.value.Seen.{Seen}
-use Rattle.heap_core.specs.declared.value.Seen.TheVariants.{Is, Bad, Out}
-use Rattle.heap_core.specs.Outcomes.{in_bits, number, flag, value_in, negative, equivalent, operated}
+use Rattle.heap_core.specs.declared.value.Value.TheVariants.{Num, Flag}
+use Rattle.heap_core.specs.declared.value.Seen.TheVariants.{Is, Out}
+use Rattle.heap_core.specs.Outcomes.{number, flag, value_in, negative, equivalent, operated}
 use Rattle.rel_core.specs.declared.formula.Formula.{Formula}
 use Rattle.rel_core.specs.declared.numbers.NumExpr.{NumExpr}
 use Rattle.rel_core.specs.Reading.{Reading}
@@ -20,7 +17,7 @@ use Rattle.rel_core.specs.Meaning.{fitting, with_both, number_of, holds}
 use Rattle.clause_terms.specs.declared.term.Shape.TheVariants as shape
 use Rattle.clause_terms.specs.declared.term.Term.{Term}
 use Rattle.clause_terms.specs.Terms.{HasValue, Tells}
-use Rattle.clause_terms.proofs.Fitting.{fitting_number, told_fitting}
+use Rattle.clause_terms.proofs.Fitting.{told_fitting}
 
 some_same : {A : Type 0} {x y : A} → Some x ≡ Some y → x ≡ y
 some_same is = cc

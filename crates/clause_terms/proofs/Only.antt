@@ -1,6 +1,6 @@
 -- Sets that have one value and nothing else: what is asked of them.
-use Rattle.std.proofs.Common.{◌≡◌, ℕ, zero, suc, ◌+◌, ◌<◌, ◌≤◌, Bool, true, false, not, ◌&&◌, ◌||◌, List, [], ◌∷◌, map, inl, inr, refl, sym, ap, ◌∙◌, arith}
-use Rattle.std.specs.Prelude.{◌==◌, nat_lt, filter, pos, count_by}
+use Rattle.std.proofs.Common.{◌≡◌, ℕ, zero, suc, ◌+◌, ◌<◌, ◌≤◌, Bool, true, false, not, ◌&&◌, ◌||◌, List, [], ◌∷◌, inl, inr, refl, sym, ap, ◌∙◌, arith}
+use Rattle.std.specs.Prelude.{◌==◌, filter, pos}
 use Rattle.std.specs.Ordering.{int_eq}
 use Rattle.std.specs.List.{list_any, list_all, range_with_len}
 use Rattle.std.proofs.lemmas.Bool.{false≢true, ltb-true, cases_eq, eq-eqb, ne_eqb}
@@ -9,7 +9,7 @@ use Rattle.heap_core.specs.declared.value.Value.{Value}
 use Rattle.heap_core.specs.declared.value.Value.TheVariants.{Null, Obj, Num, Flag}
 use Rattle.heap_core.specs.Outcomes.{is_value}
 use Rattle.rel_core.specs.declared.relation.RelVar.{RelVar}
-use Rattle.rel_core.specs.Reading.{Reading, numbers_below, references}
+use Rattle.rel_core.specs.Reading.{Reading, numbers_below}
 use Rattle.rel_core.specs.Meaning.{ValueSet, has_object, joined, objects_in, only, only_object, is_subset, are_of}
 use Rattle.clause_terms.specs.Terms.{IsOnly}
 

@@ -1,5 +1,4 @@
 -- What is said of the value of an outcome.
-use Rattle.std.proofs.Common.{◌≡◌}
 use Rattle.heap_core.specs.declared.value.Value.{Value}
 use Rattle.heap_core.specs.declared.value.Seen.{Seen}
 use Rattle.heap_core.specs.declared.value.Seen.TheVariants.{Is, Bad, Out}

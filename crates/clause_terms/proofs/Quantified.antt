@@ -1,6 +1,6 @@
 -- What the instances of a quantifier give together.
-use Rattle.std.proofs.Common.{◌≡◌, ℕ, zero, suc, ◌+◌, Bool, true, false, not, ◌&&◌, ◌||◌, List, [], ◌∷◌, ◌++◌, refl, sym, ap, ◌∙◌, subst, arith}
-use Rattle.std.specs.Prelude.{if◌then◌else◌, IsTrue, IsFalse}
+use Rattle.std.proofs.Common.{◌≡◌, ℕ, zero, suc, ◌+◌, Bool, true, false, not, ◌&&◌, ◌||◌, List, [], ◌∷◌, ◌++◌, refl, sym, ap, ◌∙◌, arith}
+use Rattle.std.specs.Prelude.{if◌then◌else◌, IsTrue}
 use Rattle.std.specs.List.{list_any, list_all, range_with_len}
 use Rattle.std.proofs.lemmas.Bool.{false≢true, and_parts, and_from}
 use Rattle.heap_core.specs.declared.value.Value.TheVariants.{Null, Obj, Num, Flag}
@@ -8,14 +8,11 @@ use Rattle.heap_core.specs.declared.value.Seen.{Seen}
 use Rattle.heap_core.specs.declared.value.Seen.TheVariants.{Is, Bad, Out}
 use Rattle.heap_core.specs.Outcomes.{is_out, is_bad, is_true, flag, as_flag}
 use Rattle.heap_core.specs.Eval.{over}
-use Rattle.heap_core.specs.Posed.{Posed}
 use Rattle.rel_core.specs.declared.formula.Formula.{Formula}
 use Rattle.rel_core.specs.Reading.{Reading, numbers_below}
 use Rattle.rel_core.specs.Meaning.{holds}
-use Rattle.rel_core.specs.Uses.{Kinds, is_sorted}
 use Rattle.clause_terms.specs.declared.instances.Instances.{Instances}
 use Rattle.clause_terms.specs.declared.term.Shape.TheVariants as shape
-use Rattle.clause_terms.specs.declared.term.Term.{Term}
 use Rattle.clause_terms.specs.declared.term.Truth.{Truth}
 use Rattle.clause_terms.specs.Terms.{Judges, Tells, gives_flag}
 use Rattle.clause_terms.specs.Gathering.{Gathered, all_hold, some_hold, all_fine, all_inside, all_true, some_true}

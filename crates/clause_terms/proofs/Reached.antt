@@ -1,15 +1,14 @@
 -- Terms of `\reach`.
-use Rattle.std.proofs.Common.{◌≡◌, ℕ, ◌+◌, ◌<◌, Bool, true, false, cond, List, [], ◌∷◌, Option, Some, None, inl, inr, refl, sym, ap, ◌∙◌, subst}
-use Rattle.std.specs.Prelude.{◌==◌, ℤ, pos, count_by, option_map, is_some}
+use Rattle.std.proofs.Common.{◌≡◌, ℕ, ◌+◌, Bool, true, false, cond, List, [], ◌∷◌, inl, inr, refl, sym, ap, ◌∙◌, subst}
+use Rattle.std.specs.Prelude.{◌==◌, ℤ, pos, count_by, option_map}
 use Rattle.std.specs.List.{range_with_len}
 use Rattle.std.proofs.lemmas.Bool.{false≢true, cases_eq, eq-eqb, ne_eqb}
 use Rattle.std.proofs.lemmas.List.Sums.{sum_by-cons}
 use Rattle.heap_core.specs.declared.value.Value.{Value}
 use Rattle.heap_core.specs.declared.value.Value.TheVariants.{Null, Obj, Num, Flag}
-use Rattle.heap_core.specs.declared.value.Seen.{Seen}
-use Rattle.heap_core.specs.declared.value.Seen.TheVariants.{Is, Bad, Out}
-use Rattle.heap_core.specs.Outcomes.{is_object, is_value, flag, number, value_in}
-use Rattle.heap_core.specs.Closure.{closure, rounds}
+use Rattle.heap_core.specs.declared.value.Seen.TheVariants.{Is, Out}
+use Rattle.heap_core.specs.Outcomes.{is_object, number, value_in}
+use Rattle.heap_core.specs.Closure.{closure}
 use Rattle.heap_core.specs.Eval.{Env, points, reached, has, size}
 use Rattle.heap_core.proofs.Closure.{rounds_agree}
 use Rattle.rel_core.specs.declared.formula.Formula.{Formula}

@@ -1,5 +1,5 @@
 -- Fields that a unit lacks. (This project's own.)
-use Rattle.std.specs.Prelude.{◌≡◌, ℕ, Bool, false, not, List, slice_get, None}
+use Rattle.std.specs.Prelude.{◌≡◌, ℕ, false, not, List, slice_get, None}
 use Rattle.taco_unit.specs.declared.unit.ClassDef.{ClassDef}
 use Rattle.taco_unit.specs.Parts.{Parts}
 use Rattle.taco_unit.specs.Well.{IsWell}

@@ -1,6 +1,6 @@
 -- What an outcome is shown by: a value with two formulas, where there is one and where the evaluation stays within
 -- the scopes. (This project's own.)
-use Rattle.std.specs.Prelude.{◌≡◌, ℕ, Bool, true, false, not, Option, Some, None, option_map, IsTrue}
+use Rattle.std.specs.Prelude.{◌≡◌, Bool, true, false, not, Some, option_map, IsTrue}
 use Rattle.heap_core.specs.declared.value.Value.{Value}
 use Rattle.heap_core.specs.declared.value.Value.TheVariants.{Num, Flag}
 use Rattle.heap_core.specs.declared.value.Seen.{Seen}

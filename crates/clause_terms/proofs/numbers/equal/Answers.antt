@@ -1,11 +1,7 @@
-use Rattle.std.proofs.Common.{rules}
-use Rattle.std.proofs.Common.{◌≡◌, true, false, not, refl, sym, ap, ◌∙◌, subst}
-use Rattle.std.specs.Prelude.{◌+ℤ◌, ◌-ℤ◌, ◌*ℤ◌, int_lt, int_le}
+use Rattle.std.proofs.Common.{false, refl, ◌∙◌}
 use Rattle.std.specs.Ordering.{int_eq}
 use Rattle.taco_unit.specs.declared.expr.Op.TheVariants as o
-use Rattle.heap_core.specs.Outcomes.{operated}
-use Rattle.clause_terms.specs.Terms.{Tells}
-use Rattle.clause_terms.proofs.NumberTerms.{told_negated, told_arithmetic, told_comparison, both_given, not_below, turned, told_equivalent}
+use Rattle.clause_terms.proofs.NumberTerms.{told_comparison, both_given}
 use Rattle.clause_terms.proofs.numbers.equal.Goals as goal
 
 pub returns-clause-told : goal.returns-clause-told

@@ -1,16 +1,5 @@
-use Rattle.std.proofs.Common.{rules}
-use Rattle.std.proofs.Common.{◌≡◌, true, false, not, refl, sym, ap, ◌∙◌, subst}
-use Rattle.taco_unit.specs.declared.expr.Op.TheVariants as o
-use Rattle.heap_core.specs.declared.value.Value.TheVariants.{Flag}
-use Rattle.heap_core.specs.Outcomes.{is_value, same_flag, operated, with_value, opposite, negative}
-use Rattle.heap_core.specs.Eval.{binary}
-use Rattle.rel_core.specs.Meaning.{holds, set_of}
-use Rattle.clause_terms.specs.declared.term.Shape.TheVariants as shape
-use Rattle.clause_terms.specs.Terms.{HasValue, Tells, is_sorted_shape}
-use Rattle.clause_terms.proofs.Only.{subset_one}
-use Rattle.clause_terms.proofs.Mixed.{mixed, reference_same, references_out, truths_out}
-use Rattle.clause_terms.proofs.Outcomes.{on_value}
-use Rattle.clause_terms.proofs.Settled.{strict_is, opposite_settled, flags_settle}
+use Rattle.std.proofs.Common.{◌≡◌, true, subst}
+use Rattle.clause_terms.specs.Terms.{HasValue, is_sorted_shape}
 use Rattle.clause_terms.proofs.operators.negative_value.Goals as goal
 
 pub returns-in-Number-clause-told : goal.returns-in-Number-clause-told

@@ -1,12 +1,5 @@
-use Rattle.std.proofs.Common.{rules}
-use Rattle.std.proofs.Common.{◌≡◌, true, refl, sym, ap, ◌∙◌, subst}
-use Rattle.heap_core.specs.declared.value.Value.TheVariants.{Null, Obj, Flag}
-use Rattle.heap_core.specs.Heap.{field}
-use Rattle.rel_core.specs.Meaning.{holds, number_of, set_of}
-use Rattle.clause_terms.specs.Terms.{IsOnly, HasValue, Tells, is_sorted_shape}
-use Rattle.clause_terms.proofs.Outcomes.{on_value}
-use Rattle.clause_terms.proofs.Fitting.{told_fitting}
-use Rattle.clause_terms.proofs.FieldTerms.{null_exact, object_exact, told_lacking}
+use Rattle.std.proofs.Common.{◌≡◌, true, subst}
+use Rattle.clause_terms.specs.Terms.{HasValue, is_sorted_shape}
 use Rattle.clause_terms.proofs.reads.lacking_value.Goals as goal
 
 pub returns-in-Set-clause-told : goal.returns-in-Set-clause-told

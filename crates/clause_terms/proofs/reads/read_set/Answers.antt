@@ -1,4 +1,3 @@
-use Rattle.std.proofs.Common.{rules}
 use Rattle.std.proofs.Common.{◌≡◌, true, subst, sym}
 use Rattle.rel_core.specs.Meaning.{holds, set_of}
 use Rattle.rel_core.specs.Uses.{is_spread, use_of_kind}

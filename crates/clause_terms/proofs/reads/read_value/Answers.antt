@@ -1,4 +1,3 @@
-use Rattle.std.proofs.Common.{rules}
 use Rattle.std.proofs.Common.{◌≡◌, true, subst}
 use Rattle.clause_terms.specs.Terms.{HasValue, is_sorted_shape}
 use Rattle.clause_terms.proofs.reads.read_value.Goals as goal

@@ -1,8 +1,7 @@
-use Rattle.std.proofs.Common.{rules}
-use Rattle.std.proofs.Common.{◌≡◌, ◌++◌, [], ◌∷◌, true, false, not, refl, sym, ap, ◌∙◌, subst}
+use Rattle.std.proofs.Common.{◌++◌, [], ◌∷◌, ap, ◌∙◌}
 use Rattle.rel_core.specs.Meaning.{holds}
 use Rattle.rel_core.specs.Uses.{is_sorted}
-use Rattle.clause_terms.proofs.Quantified.{gathered_more, told_over, all_with}
+use Rattle.clause_terms.proofs.Quantified.{gathered_more, all_with}
 use Rattle.clause_terms.proofs.instances.Instances.add.Goals as goal
 
 pub returns-clause-told : goal.returns-clause-told

@@ -1,8 +1,4 @@
-use Rattle.std.proofs.Common.{rules}
-use Rattle.std.proofs.Common.{◌≡◌, true, false, not, refl, sym, ap, ◌∙◌, subst}
-use Rattle.rel_core.specs.Meaning.{holds}
-use Rattle.rel_core.specs.Uses.{is_sorted}
-use Rattle.clause_terms.proofs.Quantified.{gathered_more, told_over, all_last}
+use Rattle.clause_terms.proofs.Quantified.{told_over}
 use Rattle.clause_terms.proofs.instances.Instances.over.Goals as goal
 
 pub returns-clause-told : goal.returns-clause-told

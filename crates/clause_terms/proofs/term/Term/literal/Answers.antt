@@ -1,4 +1,3 @@
-use Rattle.std.proofs.Common.{rules}
 use Rattle.clause_terms.proofs.term.Term.literal.Goals as goal
 
 pub returns-clause-sorted : goal.returns-clause-sorted

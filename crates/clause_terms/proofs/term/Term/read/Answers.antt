@@ -1,4 +1,3 @@
-use Rattle.std.proofs.Common.{rules}
 use Rattle.heap_core.specs.Heap.{field}
 use Rattle.clause_terms.specs.Terms.{HasValue, Tells}
 use Rattle.clause_terms.proofs.Outcomes.{on_value}

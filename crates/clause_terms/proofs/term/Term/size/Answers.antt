@@ -1,14 +1,6 @@
-use Rattle.std.proofs.Common.{rules}
-use Rattle.std.proofs.Common.{◌≡◌, true, false, refl, sym, ap, ◌∙◌, subst}
-use Rattle.std.specs.List.{list_all}
-use Rattle.heap_core.specs.Eval.{has, size}
-use Rattle.heap_core.specs.Outcomes.{with_value}
-use Rattle.rel_core.specs.Meaning.{objects_only, reached_from, set_of}
-use Rattle.rel_core.specs.Uses.{AsSet, is_spread}
-use Rattle.clause_terms.specs.declared.term.Shape.TheVariants as shape
-use Rattle.clause_terms.specs.Terms.{HasValue, Tells, is_sorted_shape}
+use Rattle.heap_core.specs.Eval.{size}
+use Rattle.clause_terms.specs.Terms.{HasValue, Tells}
 use Rattle.clause_terms.proofs.Outcomes.{on_value}
-use Rattle.clause_terms.proofs.Reached.{told_has, told_size, has_no_root, has_no_member, size_no_root}
 use Rattle.clause_terms.proofs.term.Term.size.Goals as goal
 
 pub returns-clause-told : goal.returns-clause-told

@@ -1,10 +1,7 @@
-use Rattle.std.proofs.Common.{rules}
-use Rattle.std.proofs.Common.{◌≡◌, true, false, not, refl, ap, ◌∙◌, subst}
+use Rattle.std.proofs.Common.{true, refl, ◌∙◌}
 use Rattle.heap_core.specs.Outcomes.{as_flag, flag}
 use Rattle.rel_core.specs.Meaning.{holds}
-use Rattle.rel_core.specs.Uses.{is_sorted}
-use Rattle.clause_terms.specs.Terms.{is_sorted_shape}
-use Rattle.clause_terms.proofs.Flags.{told_lazy, and_is, or_is, or_means, implies_is}
+use Rattle.clause_terms.proofs.Flags.{told_lazy, implies_is}
 use Rattle.std.specs.Prelude.{if◌then◌else◌}
 use Rattle.clause_terms.proofs.term.Truth.implication.Goals as goal
 

@@ -1,4 +1,3 @@
-use Rattle.std.proofs.Common.{rules}
 use Rattle.clause_terms.proofs.term.Truth.of.Goals as goal
 
 pub returns-in-Set-clause-sorted : goal.returns-in-Set-clause-sorted

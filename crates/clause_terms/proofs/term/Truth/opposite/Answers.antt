@@ -1,4 +1,3 @@
-use Rattle.std.proofs.Common.{rules}
 use Rattle.clause_terms.proofs.term.Truth.opposite.Goals as goal
 
 pub returns-clause-sorted : goal.returns-clause-sorted
