@@ -53,7 +53,8 @@ and_true true = refl
 and_true false = refl
 
 -- what a field gives at an object, by whether the object is there and of the class
-module _ (u : Parts) (m : Reading) (at : Indices) (heap : Heap) (f : ℕ) (d : FieldDef) (shown : FieldIsShown u m at heap f d) (t : Term) (o : ℕ) (value : (v : Value) → ShowsValue m d.kind (field_relation at f) o v → HasValue m t.value v) where
+module _ (u : Parts) (m : Reading) (at : Indices) (heap : Heap) (f : ℕ) (d : FieldDef) (shown : FieldIsShown u m at heap f d) (t : Term) (o : ℕ)
+    (value : (v : Value) → ShowsValue m d.kind (field_relation at f) o v → HasValue m t.value v) where
   told_there : (live of : Bool) → m.flag (live_relation at) o ≡ live → int_eq (m.number (class_relation at) o) (pos d.class) ≡ of
       → holds t.fine m ≡ (live && of) → holds t.inside m ≡ (not live || of) → Tells (field u.classes heap f (Obj o)) t m
   told_there true true there is fine inside =
@@ -78,7 +79,8 @@ told_read u m at heap f d t s Null live of shown one live_is of_is fine inside v
     record { fine = fine ∙ ap (λ b. b && of) dead; inside = inside ∙ ap (λ b. not b || of) dead; value = tt }
 told_read u m at heap f d t s (Obj o) live of shown one live_is of_is fine inside value =
     let live_here : live ≡ m.flag (live_relation at) o = live_is ∙ flag_at_object m s o (live_relation at) one in
-    let class : of ≡ int_eq (m.number (class_relation at) o) (pos d.class) = of_is ∙ class_one m s (Obj o) d.class (class_relation at) one ∙ and_true (int_eq (m.number (class_relation at) o) (pos d.class)) in
+    let class : of ≡ int_eq (m.number (class_relation at) o) (pos d.class) = of_is ∙ class_one m s (Obj o) d.class (class_relation at) one ∙ and_true
+    (int_eq (m.number (class_relation at) o) (pos d.class)) in
     told_there u m at heap f d shown t o (λ w. value o w one) live of (sym live_here) (sym class) fine inside
 told_read u m at heap f d t s (Num z) live of shown one live_is of_is fine inside value = absurd (false≢true one.reference)
 told_read u m at heap f d t s (Flag b) live of shown one live_is of_is fine inside value = absurd (false≢true one.reference)

@@ -92,7 +92,8 @@ no_flag m (shape.Number n) (Flag b) other has = absurd (never (number_of n m) ha
     never (Some z) is = false≢true (ap (λ v. gives_flag (value_in v)) is)
 no_flag m (shape.Truth f) (Flag b) other has = absurd (false≢true (sym other))
 
-pub truth_is_none : (x : Seen) (t : Term) (r : Truth) (m : Reading) → is_truth_shape t.value ≡ false → holds r.fine m ≡ false → holds r.inside m ≡ (holds t.inside m && not (holds t.fine m)) → Tells x t m → Judges x r m
+pub truth_is_none : (x : Seen) (t : Term) (r : Truth) (m : Reading) → is_truth_shape t.value ≡ false → holds r.fine m ≡ false → holds r.inside m ≡ (holds t.inside m && not (holds t.fine m))
+    → Tells x t m → Judges x r m
 truth_is_none Bad t r m other fine inside told = record { fine = fine; inside = rw (inside, told.inside, told.fine) refl; value = λ no. absurd (false≢true no) }
 truth_is_none Out t r m other fine inside told = record { fine = fine; inside = rw (inside, told.inside) refl; value = λ no. absurd (false≢true no) }
 truth_is_none (Is v) t r m other fine inside told =

@@ -29,7 +29,8 @@ module _ (u : Parts) (well : IsWell u) (f : ℕ) (lacks : slice_get u.fields f �
       let found = position-Some (λ g. g == f) d.fields i 0 is in
       let listed : slice_get d.fields i ≡ Some f = slice_get-get_or d.fields i 0 found.0 ∙ ap Some (eqb-true (get_or d.fields i 0) f found.1) in
       let own : option_map_or (λ e. e.class == c) (slice_get u.fields f) false ≡ true =
-      all_at (λ g. option_map_or (λ e. e.class == c) (slice_get u.fields g) false) (filter (λ g. option_map_or (λ e. e.class == c) (slice_get u.fields g) false) (range_with_len 0 (length u.fields))) i f
+      all_at (λ g. option_map_or (λ e. e.class == c) (slice_get u.fields g) false)
+      (filter (λ g. option_map_or (λ e. e.class == c) (slice_get u.fields g) false) (range_with_len 0 (length u.fields))) i f
       (all_filtered (λ g. option_map_or (λ e. e.class == c) (slice_get u.fields g) false) (range_with_len 0 (length u.fields)))
       (ap (λ fs. slice_get fs i) (sym (well.classes c d there).lists_fields) ∙ listed)
       in
@@ -53,7 +54,8 @@ never_bad : (v : Option Value) → is_bad (value_in v) ≡ false
 never_bad (Some v) = refl
 never_bad None = refl
 
-absent : (u : Parts) (m : Reading) (at : Indices) (heap : Heap) (f o : ℕ) → m.flag (live_relation at) o ≡ nat_lt o (length heap) → (x : Option Object) → slice_get heap o ≡ x → is_bad (cell_of u.classes f x) ≡ not (m.flag (live_relation at) o)
+absent : (u : Parts) (m : Reading) (at : Indices) (heap : Heap) (f o : ℕ) → m.flag (live_relation at) o ≡ nat_lt o (length heap) → (x : Option Object) → slice_get heap o ≡ x → is_bad
+    (cell_of u.classes f x) ≡ not (m.flag (live_relation at) o)
 absent u m at heap f o live (Some x) there = never_bad (cell u.classes f x) ∙ sym (ap not (live ∙ lt-ltb o (length heap) (slice_get_within heap o x there)))
 absent u m at heap f o live None there = sym (ap not (live ∙ past (nat_lt o (length heap)) refl))
   where

@@ -19,7 +19,8 @@ use Rattle.clause_terms.proofs.NumberTerms.{has_number}
 
 -- ## an operator that gives nothing
 
-operated_out : (o : Op) (w : ℕ) (v u : Value) → ((k : ℤ → ℤ → Seen) → on_numbers k v u ≡ Out) → (o ≡ op.Eq → same v u ≡ Out) → (o ≡ op.Ne → same v u ≡ Out) → (o ≡ op.Iff → equivalent v u ≡ Out) → operated o w v u ≡ Out
+operated_out : (o : Op) (w : ℕ) (v u : Value) → ((k : ℤ → ℤ → Seen) → on_numbers k v u ≡ Out) → (o ≡ op.Eq → same v u ≡ Out) → (o ≡ op.Ne → same v u ≡ Out) →
+    (o ≡ op.Iff → equivalent v u ≡ Out) → operated o w v u ≡ Out
 operated_out op.Add w v u nums eq ne iff = nums _
 operated_out op.Sub w v u nums eq ne iff = nums _
 operated_out op.Mul w v u nums eq ne iff = nums _

@@ -44,7 +44,8 @@ told_on_numbers m op x y t v u each one other =
     let b = has_number m y u other in
     subst (λ a. Tells (operated op m.ints a u) t m) (sym a.is) (subst (λ b. Tells (operated op m.ints (Num a.whole) b) t m) (sym b.is) (each a.whole b.whole a.given b.given))
 
-pub both_given : {A : Type 0} (m : Reading) (x y : NumExpr) (z w : ℤ) (f : ℤ → ℤ → A) (none : A) → number_of x m ≡ Some z → number_of y m ≡ Some w → with_both (number_of x m) (number_of y m) f none ≡ f z w
+pub both_given : {A : Type 0} (m : Reading) (x y : NumExpr) (z w : ℤ) (f : ℤ → ℤ → A) (none : A) → number_of x m ≡ Some z → number_of y m ≡ Some w → with_both (number_of x m) (number_of y m)
+    f none ≡ f z w
 both_given m x y z w f none left right = rw (left, right) refl
 
 -- a number that may not fit
@@ -104,7 +105,8 @@ turned m op other x y t v u means one two told =
     let a = has_number m x v one in
     let b = has_number m y u two in
     let same : operated op m.ints v u ≡ operated other m.ints u v =
-    ap (λ p. operated op m.ints p u) a.is ∙ ap (λ q. operated op m.ints (Num a.whole) q) b.is ∙ means a.whole b.whole ∙ ap (λ q. operated other m.ints q (Num a.whole)) (sym b.is) ∙ ap (λ p. operated other m.ints u p) (sym a.is)
+    ap (λ p. operated op m.ints p u) a.is ∙ ap (λ q. operated op m.ints (Num a.whole) q) b.is ∙ means a.whole b.whole ∙ ap (λ q. operated other m.ints q (Num a.whole)) (sym b.is) ∙ ap
+    (λ p. operated other m.ints u p) (sym a.is)
     in
     subst (λ s. Tells s t m) (sym same) told
 

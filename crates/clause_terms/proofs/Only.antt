@@ -76,7 +76,8 @@ and_true false = refl
 -- it is within a set exactly where the set has the value
 pub subset_one : (m : Reading) (s t : ValueSet) (v : Value) → IsOnly m s v → is_subset m s t ≡ t v
 subset_one m s t v one =
-    ap (λ b. (not (s Null) || t Null) && b) (list_all-map (λ w. not (s w) || t w) Obj (numbers_below m.objects) ∙ all_filter (has_object s) (has_object t) (numbers_below m.objects) ∙ ap (list_all (has_object t)) (members m s v one))
+    ap (λ b. (not (s Null) || t Null) && b) (list_all-map (λ w. not (s w) || t w) Obj (numbers_below m.objects) ∙ all_filter (has_object s) (has_object t) (numbers_below m.objects) ∙ ap
+    (list_all (has_object t)) (members m s v one))
     ∙ ap (λ b. (not b || t Null) && list_all (has_object t) (numbers_of v)) (one.exact Null)
     ∙ each v one
   where

@@ -116,7 +116,8 @@ flag_is (Is (Obj o)) is = absurd (false≢true (sym (ap is_out is)))
 flag_is (Is (Num z)) is = absurd (false≢true (sym (ap is_out is)))
 flag_is (Is (Flag b)) is = refl
 
-fine_one : (d : Bool) (s : Seen) (rest out bad : Bool) → as_flag s ≡ s → rest ≡ (not out && not bad) → ((not d || gives_flag s) && rest) ≡ (not ((d && is_out s) || out) && not ((d && is_bad s) || bad))
+fine_one : (d : Bool) (s : Seen) (rest out bad : Bool) → as_flag s ≡ s → rest ≡ (not out && not bad) → ((not d || gives_flag s) && rest) ≡
+    (not ((d && is_out s) || out) && not ((d && is_bad s) || bad))
 fine_one false s rest out bad settled is = is
 fine_one true s rest out bad settled is = ap (λ b. b && rest) (flag_is s settled) ∙ go (is_out s) (is_bad s) out is
   where
@@ -133,7 +134,8 @@ module _ (domain : ℕ → Bool) (instance : ℕ → Seen) (settled : (o : ℕ) 
       ap (λ s. (not (domain x) || not (is_out s)) && list_all (λ o. not (domain o) || not (is_out (as_flag (instance o)))) xs) (settled x)
       ∙ inside_one (domain x) (instance x) _ _ (inside_all xs)
 
-  fine_all : (xs : List ℕ) → list_all (λ o. not (domain o) || gives_flag (instance o)) xs ≡ (not (list_any (λ o. domain o && is_out (instance o)) xs) && not (list_any (λ o. domain o && is_bad (instance o)) xs))
+  fine_all : (xs : List ℕ) → list_all (λ o. not (domain o) || gives_flag (instance o)) xs ≡
+      (not (list_any (λ o. domain o && is_out (instance o)) xs) && not (list_any (λ o. domain o && is_bad (instance o)) xs))
   fine_all [] = refl
   fine_all (x ∷ xs) = fine_one (domain x) (instance x) _ _ _ (settled x) (fine_all xs)
 
@@ -152,7 +154,8 @@ module _ (domain : ℕ → Bool) (instance : ℕ → Seen) (settled : (o : ℕ) 
           → (holds fine m ≡ true → all ≡ true → holds value m ≡ all_true domain instance n)
           → (holds fine m ≡ true → all ≡ false → holds value m ≡ some_true domain instance n)
           → all ≡ a
-          → Tells (if out then Out else (if bad then Bad else (if a then flag (all_true domain instance n) else flag (some_true domain instance n)))) (record { value = shape.Truth value; fine = fine; inside = inside }) m
+          → Tells (if out then Out else (if bad then Bad else (if a then flag (all_true domain instance n) else flag (some_true domain instance n))))
+          (record { value = shape.Truth value; fine = fine; inside = inside }) m
       go true bad a f i every some is = record { fine = f; inside = i; value = tt }
       go false true a f i every some is = record { fine = f; inside = i; value = tt }
       go false false true f i every some is = record { fine = f; inside = i; value = ap Flag (sym (every f is)) }

@@ -40,7 +40,8 @@ object_one m s (Num z) o one = absurd (false≢true one.reference)
 object_one m s (Flag b) o one = absurd (false≢true one.reference)
 
 -- what is reached by relations is what is reached by fields
-pub reached_alike : (m : Reading) (rs : List RelVar) (env : Env) (fields : List ℕ) (s : ValueSet) (v : Value) (o : ℕ) → LeadAlike m rs env fields → IsOnly m s v → reached_from m rs s o ≡ reached env fields v o
+pub reached_alike : (m : Reading) (rs : List RelVar) (env : Env) (fields : List ℕ) (s : ValueSet) (v : Value) (o : ℕ) → LeadAlike m rs env fields → IsOnly m s v → reached_from m rs s o ≡
+    reached env fields v o
 reached_alike m rs env fields s v o alike one =
     rounds_agree m.objects (leads m rs) (points env fields) m.objects (has_object s) (λ q. is_object q v) (λ p q within. alike.edges p q) (λ q. object_one m s v q one) o
     ∙ ap (λ k. closure (points env fields) k (λ q. is_object q v) o) alike.objects
@@ -74,7 +75,8 @@ count_alike p q [] same = refl
 count_alike p q (x ∷ xs) same =
     sum_by-cons (λ o. cond (p o) 1 0) x xs ∙ ap (λ b. cond b 1 0 + count_by p xs) (same x) ∙ ap (λ n. cond (q x) 1 0 + n) (count_alike p q xs same) ∙ sym (sum_by-cons (λ o. cond (q o) 1 0) x xs)
 
-size_is : (env : Env) (fields : List ℕ) (m : Reading) (s : ValueSet) (v : Value) → IsOnly m s v → size env fields v ≡ number env.ints (pos (count_by (reached env fields v) (range_with_len 0 env.objects)))
+size_is : (env : Env) (fields : List ℕ) (m : Reading) (s : ValueSet) (v : Value) → IsOnly m s v → size env fields v ≡ number env.ints
+    (pos (count_by (reached env fields v) (range_with_len 0 env.objects)))
 size_is env fields m s Null one = refl
 size_is env fields m s (Obj o) one = refl
 size_is env fields m s (Num z) one = absurd (false≢true one.reference)

@@ -52,7 +52,8 @@ pub(crate) fn after(
     inside: Boxed<Formula>,
     then: Term,
 ) -> Result<Term, NoMemory>
-    ensures told { IfOk result (λ r. (m : Reading) (s : Seen) (k : Value → Seen) → holds fine m ≡ gives_value s → holds inside m ≡ not (is_out s) → OnValue s (λ v. Tells (k v) then m) → Tells (with_value s k) r m) }
+    ensures told { IfOk result (λ r. (m : Reading) (s : Seen) (k : Value → Seen) → holds fine m ≡ gives_value s → holds inside m ≡ not (is_out s) → OnValue s (λ v. Tells (k v) then m)
+        → Tells (with_value s k) r m) }
     ensures sorted { IfOk result (λ r. (p : Posed) (kinds : Kinds) → IsTrue (is_sorted p kinds fine) → IsTrue (is_sorted p kinds inside) → IsSortedTerm p kinds then → IsSortedTerm p kinds r) }
 {
     let Term {

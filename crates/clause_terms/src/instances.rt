@@ -80,7 +80,8 @@ impl Instances {
         guard: Boxed<Formula>,
         truth: Truth,
     ) -> Result<(), NoMemory>
-        ensures told { OnOk result ((m : Reading) (domain : ℕ → Bool) (instance : ℕ → Seen) (n : ℕ) → holds guard m ≡ domain n → Judges (instance n) truth m → Gathered m all domain instance n self.old → Gathered m all domain instance (n + 1) self.new) }
+        ensures told { OnOk result ((m : Reading) (domain : ℕ → Bool) (instance : ℕ → Seen) (n : ℕ) → holds guard m ≡ domain n → Judges (instance n) truth m
+            → Gathered m all domain instance n self.old → Gathered m all domain instance (n + 1) self.new) }
         ensures sorted { OnOk result ((p : Posed) (kinds : Kinds) → IsTrue (is_sorted p kinds guard) → IsSortedTruth p kinds truth → AreSorted p kinds self.old → AreSorted p kinds self.new) }
     {
         let Truth {
@@ -99,7 +100,8 @@ impl Instances {
 
     /// The conjunction, or the disjunction, of the instances: Out where one of them is, else Bad where one is.
     pub fn over(alloc: Global, all: bool, instances: Instances) -> Result<Term, NoMemory>
-        ensures told { IfOk result (λ r. (m : Reading) (domain : ℕ → Bool) (instance : ℕ → Seen) (n : ℕ) → ((o : ℕ) → as_flag (instance o) ≡ instance o) → Gathered m all domain instance n instances → Tells (over_lem all domain instance n) r m) }
+        ensures told { IfOk result (λ r. (m : Reading) (domain : ℕ → Bool) (instance : ℕ → Seen) (n : ℕ) → ((o : ℕ) → as_flag (instance o) ≡ instance o)
+            → Gathered m all domain instance n instances → Tells (over_lem all domain instance n) r m) }
         ensures sorted { IfOk result (λ r. (p : Posed) (kinds : Kinds) → AreSorted p kinds instances → IsSortedTerm p kinds r) }
     {
         let Instances {

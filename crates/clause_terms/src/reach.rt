@@ -26,7 +26,8 @@ fn reached(
     relations: &[RelVar],
 ) -> Result<Boxed<RelExpr>, NoMemory>
     ensures meaning { IfOk result (λ e. (m : Reading) → set_of e m ≡ objects_only (reached_from m relations.now (set_of root m))) }
-    ensures sorted { IfOk result (λ e. (p : Posed) (kinds : Kinds) → IsTrue (is_sorted_set p kinds root) → IsTrue (list_all (is_spread p kinds AsSet) relations.now) → IsTrue (is_sorted_set p kinds e)) }
+    ensures sorted { IfOk result (λ e. (p : Posed) (kinds : Kinds) → IsTrue (is_sorted_set p kinds root) → IsTrue (list_all (is_spread p kinds AsSet) relations.now)
+        → IsTrue (is_sorted_set p kinds e)) }
 {
     let copied = Items::from_slice(alloc, relations)?;
     let all = RelExpr::reach(alloc, root, copied)?;
@@ -40,8 +41,10 @@ fn has_reference(
     relations: &[RelVar],
     member: Boxed<RelExpr>,
 ) -> Result<Term, NoMemory>
-    ensures told { IfOk result (λ r. (m : Reading) (env : Env) (fields : List ℕ) (v u : Value) → LeadAlike m relations.now env fields → HasValue m (set_shape root) v → HasValue m (set_shape member) u → Tells (has_lem env fields v u) r m) }
-    ensures sorted { IfOk result (λ r. (p : Posed) (kinds : Kinds) → IsTrue (is_sorted_set p kinds root) → IsTrue (list_all (is_spread p kinds AsSet) relations.now) → IsTrue (is_sorted_set p kinds member) → IsSortedTerm p kinds r) }
+    ensures told { IfOk result (λ r. (m : Reading) (env : Env) (fields : List ℕ) (v u : Value) → LeadAlike m relations.now env fields → HasValue m (set_shape root) v
+        → HasValue m (set_shape member) u → Tells (has_lem env fields v u) r m) }
+    ensures sorted { IfOk result (λ r. (p : Posed) (kinds : Kinds) → IsTrue (is_sorted_set p kinds root) → IsTrue (list_all (is_spread p kinds AsSet) relations.now)
+        → IsTrue (is_sorted_set p kinds member) → IsSortedTerm p kinds r) }
 {
     let all = reached(alloc, root, relations)?;
     let within = Formula::subset(alloc, member, all)?;
@@ -56,8 +59,10 @@ fn has_member(
     relations: &[RelVar],
     member: Shape,
 ) -> Result<Term, NoMemory>
-    ensures told { IfOk result (λ r. (m : Reading) (env : Env) (fields : List ℕ) (v u : Value) → LeadAlike m relations.now env fields → HasValue m (set_shape root) v → HasValue m member u → Tells (has_lem env fields v u) r m) }
-    ensures sorted { IfOk result (λ r. (p : Posed) (kinds : Kinds) → IsTrue (is_sorted_set p kinds root) → IsTrue (list_all (is_spread p kinds AsSet) relations.now) → IsTrue (is_sorted_shape p kinds member) → IsSortedTerm p kinds r) }
+    ensures told { IfOk result (λ r. (m : Reading) (env : Env) (fields : List ℕ) (v u : Value) → LeadAlike m relations.now env fields → HasValue m (set_shape root) v → HasValue m member u
+        → Tells (has_lem env fields v u) r m) }
+    ensures sorted { IfOk result (λ r. (p : Posed) (kinds : Kinds) → IsTrue (is_sorted_set p kinds root) → IsTrue (list_all (is_spread p kinds AsSet) relations.now)
+        → IsTrue (is_sorted_shape p kinds member) → IsSortedTerm p kinds r) }
 {
     match member {
         Shape::Set(member) => {
@@ -82,8 +87,10 @@ fn has_value(
     relations: &[RelVar],
     member: Shape,
 ) -> Result<Term, NoMemory>
-    ensures told { IfOk result (λ r. (m : Reading) (env : Env) (fields : List ℕ) (v u : Value) → LeadAlike m relations.now env fields → HasValue m root v → HasValue m member u → Tells (has_lem env fields v u) r m) }
-    ensures sorted { IfOk result (λ r. (p : Posed) (kinds : Kinds) → IsTrue (is_sorted_shape p kinds root) → IsTrue (list_all (is_spread p kinds AsSet) relations.now) → IsTrue (is_sorted_shape p kinds member) → IsSortedTerm p kinds r) }
+    ensures told { IfOk result (λ r. (m : Reading) (env : Env) (fields : List ℕ) (v u : Value) → LeadAlike m relations.now env fields → HasValue m root v → HasValue m member u
+        → Tells (has_lem env fields v u) r m) }
+    ensures sorted { IfOk result (λ r. (p : Posed) (kinds : Kinds) → IsTrue (is_sorted_shape p kinds root) → IsTrue (list_all (is_spread p kinds AsSet) relations.now)
+        → IsTrue (is_sorted_shape p kinds member) → IsSortedTerm p kinds r) }
 {
     match root {
         Shape::Set(root) => {
@@ -107,7 +114,8 @@ fn size_of_reference(
     root: Boxed<RelExpr>,
     relations: &[RelVar],
 ) -> Result<Term, NoMemory>
-    ensures told { IfOk result (λ r. (m : Reading) (env : Env) (fields : List ℕ) (v : Value) → LeadAlike m relations.now env fields → HasValue m (set_shape root) v → Tells (size_lem env fields v) r m) }
+    ensures told { IfOk result (λ r. (m : Reading) (env : Env) (fields : List ℕ) (v : Value) → LeadAlike m relations.now env fields → HasValue m (set_shape root) v
+        → Tells (size_lem env fields v) r m) }
     ensures sorted { IfOk result (λ r. (p : Posed) (kinds : Kinds) → IsTrue (is_sorted_set p kinds root) → IsTrue (list_all (is_spread p kinds AsSet) relations.now) → IsSortedTerm p kinds r) }
 {
     let all = reached(alloc, root, relations)?;
@@ -145,8 +153,10 @@ impl Term {
         relations: &[RelVar],
         member: Term,
     ) -> Result<Term, NoMemory>
-        ensures told { IfOk result (λ r. (m : Reading) (env : Env) (fields : List ℕ) (x y : Seen) → LeadAlike m relations.now env fields → Tells x root m → Tells y member m → Tells (with_value x (λ v. with_value y (has_lem env fields v))) r m) }
-        ensures sorted { IfOk result (λ r. (p : Posed) (kinds : Kinds) → IsSortedTerm p kinds root → IsTrue (list_all (is_spread p kinds AsSet) relations.now) → IsSortedTerm p kinds member → IsSortedTerm p kinds r) }
+        ensures told { IfOk result (λ r. (m : Reading) (env : Env) (fields : List ℕ) (x y : Seen) → LeadAlike m relations.now env fields → Tells x root m → Tells y member m
+            → Tells (with_value x (λ v. with_value y (has_lem env fields v))) r m) }
+        ensures sorted { IfOk result (λ r. (p : Posed) (kinds : Kinds) → IsSortedTerm p kinds root → IsTrue (list_all (is_spread p kinds AsSet) relations.now) → IsSortedTerm p kinds member
+            → IsSortedTerm p kinds r) }
     {
         let Term {
             value,
@@ -166,7 +176,8 @@ impl Term {
 
     /// `\reach(root, ..).int_size()`, likewise. Out where it leaves the bits.
     pub fn size(alloc: Global, root: Term, relations: &[RelVar]) -> Result<Term, NoMemory>
-        ensures told { IfOk result (λ r. (m : Reading) (env : Env) (fields : List ℕ) (x : Seen) → LeadAlike m relations.now env fields → Tells x root m → Tells (with_value x (size_lem env fields)) r m) }
+        ensures told { IfOk result (λ r. (m : Reading) (env : Env) (fields : List ℕ) (x : Seen) → LeadAlike m relations.now env fields → Tells x root m
+            → Tells (with_value x (size_lem env fields)) r m) }
         ensures sorted { IfOk result (λ r. (p : Posed) (kinds : Kinds) → IsSortedTerm p kinds root → IsTrue (list_all (is_spread p kinds AsSet) relations.now) → IsSortedTerm p kinds r) }
     {
         let Term {

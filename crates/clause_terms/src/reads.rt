@@ -79,7 +79,8 @@ fn both_and_implied(
     second: Boxed<Formula>,
 ) -> Result<(Boxed<Formula>, Boxed<Formula>), NoMemory>
     ensures meaning { IfOk result (λ r. (m : Reading) → (holds r.0 m ≡ (holds first m && holds second m)) × (holds r.1 m ≡ (not (holds first m) || holds second m))) }
-    ensures sorted { IfOk result (λ r. (p : Posed) (kinds : Kinds) → IsTrue (is_sorted p kinds first) → IsTrue (is_sorted p kinds second) → IsTrue (is_sorted p kinds r.0) × IsTrue (is_sorted p kinds r.1)) }
+    ensures sorted { IfOk result (λ r. (p : Posed) (kinds : Kinds) → IsTrue (is_sorted p kinds first) → IsTrue (is_sorted p kinds second)
+        → IsTrue (is_sorted p kinds r.0) × IsTrue (is_sorted p kinds r.1)) }
 {
     let premise = formula_copy(alloc, &first)?;
     let conclusion = formula_copy(alloc, &second)?;
@@ -97,8 +98,10 @@ fn read_set(
     field: u8,
     declared: &FieldDef,
 ) -> Result<Term, NoMemory>
-    ensures told { IfOk result (λ r. (u : Parts) (m : Reading) (heap : Heap) (v : Value) → FieldIsShown u m at.now heap field declared.now → IsOnly m (set_of set m) v → Tells (field_lem u.classes heap field v) r m) }
-    ensures sorted { IfOk result (λ r. (p : Posed) (kinds : Kinds) → IsTrue (is_sorted_set p kinds set) → IsTrue (is_spread p kinds (use_of_kind declared.now.kind) (field_relation at.now field)) → IsSortedTerm p kinds r) }
+    ensures told { IfOk result (λ r. (u : Parts) (m : Reading) (heap : Heap) (v : Value) → FieldIsShown u m at.now heap field declared.now → IsOnly m (set_of set m) v
+        → Tells (field_lem u.classes heap field v) r m) }
+    ensures sorted { IfOk result (λ r. (p : Posed) (kinds : Kinds) → IsTrue (is_sorted_set p kinds set)
+        → IsTrue (is_spread p kinds (use_of_kind declared.now.kind) (field_relation at.now field)) → IsSortedTerm p kinds r) }
 {
     let live = is_there(alloc, &set, at)?;
     let of = is_of_class(alloc, &set, at, declared.class)?;
@@ -120,8 +123,10 @@ fn read_value(
     field: u8,
     declared: &FieldDef,
 ) -> Result<Term, NoMemory>
-    ensures told { IfOk result (λ r. (u : Parts) (m : Reading) (heap : Heap) (v : Value) → FieldIsShown u m at.now heap field declared.now → HasValue m value v → Tells (field_lem u.classes heap field v) r m) }
-    ensures sorted { IfOk result (λ r. (p : Posed) (kinds : Kinds) → IsTrue (is_sorted_shape p kinds value) → IsTrue (is_spread p kinds (use_of_kind declared.now.kind) (field_relation at.now field)) → IsSortedTerm p kinds r) }
+    ensures told { IfOk result (λ r. (u : Parts) (m : Reading) (heap : Heap) (v : Value) → FieldIsShown u m at.now heap field declared.now → HasValue m value v
+        → Tells (field_lem u.classes heap field v) r m) }
+    ensures sorted { IfOk result (λ r. (p : Posed) (kinds : Kinds) → IsTrue (is_sorted_shape p kinds value)
+        → IsTrue (is_spread p kinds (use_of_kind declared.now.kind) (field_relation at.now field)) → IsSortedTerm p kinds r) }
 {
     match value {
         Shape::Set(set) => {
@@ -141,7 +146,8 @@ fn read_value(
 
 /// A field that no class declares, of the reference that a set has.
 fn lacking_set(alloc: Global, set: Boxed<RelExpr>, at: &Indices) -> Result<Term, NoMemory>
-    ensures told { IfOk result (λ r. (classes : List ClassDef) (m : Reading) (heap : Heap) (f : ℕ) (v : Value) → FieldIsLacking classes m at.now heap f → IsOnly m (set_of set m) v → Tells (field_lem classes heap f v) r m) }
+    ensures told { IfOk result (λ r. (classes : List ClassDef) (m : Reading) (heap : Heap) (f : ℕ) (v : Value) → FieldIsLacking classes m at.now heap f → IsOnly m (set_of set m) v
+        → Tells (field_lem classes heap f v) r m) }
     ensures sorted { IfOk result (λ r. (p : Posed) (kinds : Kinds) → IsTrue (is_sorted_set p kinds set) → IsSortedTerm p kinds r) }
 {
     let live = is_there(alloc, &set, at)?;
@@ -157,7 +163,8 @@ fn lacking_set(alloc: Global, set: Boxed<RelExpr>, at: &Indices) -> Result<Term,
 
 /// A field that no class declares, of a value.
 fn lacking_value(alloc: Global, value: Shape, at: &Indices) -> Result<Term, NoMemory>
-    ensures told { IfOk result (λ r. (classes : List ClassDef) (m : Reading) (heap : Heap) (f : ℕ) (v : Value) → FieldIsLacking classes m at.now heap f → HasValue m value v → Tells (field_lem classes heap f v) r m) }
+    ensures told { IfOk result (λ r. (classes : List ClassDef) (m : Reading) (heap : Heap) (f : ℕ) (v : Value) → FieldIsLacking classes m at.now heap f → HasValue m value v
+        → Tells (field_lem classes heap f v) r m) }
     ensures sorted { IfOk result (λ r. (p : Posed) (kinds : Kinds) → IsTrue (is_sorted_shape p kinds value) → IsSortedTerm p kinds r) }
 {
     match value {
@@ -186,8 +193,10 @@ impl Term {
         field: u8,
         declared: &FieldDef,
     ) -> Result<Term, NoMemory>
-        ensures told { IfOk result (λ r. (u : Parts) (m : Reading) (heap : Heap) (x : Seen) → FieldIsShown u m at.now heap field declared.now → Tells x object m → Tells (with_value x (field_lem u.classes heap field)) r m) }
-        ensures sorted { IfOk result (λ r. (p : Posed) (kinds : Kinds) → IsSortedTerm p kinds object → IsTrue (is_spread p kinds (use_of_kind declared.now.kind) (field_relation at.now field)) → IsSortedTerm p kinds r) }
+        ensures told { IfOk result (λ r. (u : Parts) (m : Reading) (heap : Heap) (x : Seen) → FieldIsShown u m at.now heap field declared.now → Tells x object m
+            → Tells (with_value x (field_lem u.classes heap field)) r m) }
+        ensures sorted { IfOk result (λ r. (p : Posed) (kinds : Kinds) → IsSortedTerm p kinds object
+            → IsTrue (is_spread p kinds (use_of_kind declared.now.kind) (field_relation at.now field)) → IsSortedTerm p kinds r) }
     {
         let Term {
             value,
@@ -201,7 +210,8 @@ impl Term {
 
     /// A field that no class declares: Bad at null and at an object that is not there, and else Out.
     pub fn read_lacking(alloc: Global, object: Term, at: &Indices) -> Result<Term, NoMemory>
-        ensures told { IfOk result (λ r. (classes : List ClassDef) (m : Reading) (heap : Heap) (f : ℕ) (x : Seen) → FieldIsLacking classes m at.now heap f → Tells x object m → Tells (with_value x (field_lem classes heap f)) r m) }
+        ensures told { IfOk result (λ r. (classes : List ClassDef) (m : Reading) (heap : Heap) (f : ℕ) (x : Seen) → FieldIsLacking classes m at.now heap f → Tells x object m
+            → Tells (with_value x (field_lem classes heap f)) r m) }
         ensures sorted { IfOk result (λ r. (p : Posed) (kinds : Kinds) → IsSortedTerm p kinds object → IsSortedTerm p kinds r) }
     {
         let Term {

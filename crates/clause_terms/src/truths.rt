@@ -45,7 +45,8 @@ fn no_truth(alloc: Global, fine: Boxed<Formula>, inside: Boxed<Formula>) -> Resu
 fn lazy(alloc: Global, left: Ends, when: &Boxed<Formula>, right: Ends) -> Result<Ends, NoMemory>
     ensures fine { IfOk result (λ r. (m : Reading) → holds r.fine m ≡ (holds left.fine m && (not (holds when.now m) || holds right.fine m))) }
     ensures inside { IfOk result (λ r. (m : Reading) → holds r.inside m ≡ (holds left.inside m && (not (holds left.fine m) || (not (holds when.now m) || holds right.inside m)))) }
-    ensures sorted { IfOk result (λ r. (p : Posed) (kinds : Kinds) → IsTrue (is_sorted p kinds left.fine) → IsTrue (is_sorted p kinds left.inside) → IsTrue (is_sorted p kinds when.now) → IsTrue (is_sorted p kinds right.fine) → IsTrue (is_sorted p kinds right.inside) → IsTrue (is_sorted p kinds r.fine) × IsTrue (is_sorted p kinds r.inside)) }
+    ensures sorted { IfOk result (λ r. (p : Posed) (kinds : Kinds) → IsTrue (is_sorted p kinds left.fine) → IsTrue (is_sorted p kinds left.inside) → IsTrue (is_sorted p kinds when.now)
+        → IsTrue (is_sorted p kinds right.fine) → IsTrue (is_sorted p kinds right.inside) → IsTrue (is_sorted p kinds r.fine) × IsTrue (is_sorted p kinds r.inside)) }
 {
     let Ends { fine, inside } = left;
     let Ends {

@@ -42,13 +42,15 @@ pub returns-in_ok-term-in-Lt-clause-sorted : goal.returns-in_ok-term-in-Lt-claus
 returns-in_ok-term-in-Lt-clause-sorted c p kinds x y = c.in_ok-term-in-Lt.ensures.sorted p kinds x y
 
 pub returns-in_ok-term-in-Le-clause-told : goal.returns-in_ok-term-in-Le-clause-told
-returns-in_ok-term-in-Le-clause-told c m v u a b = subst (λ op. Tells (operated op m.ints v u) c.in_ok-term-in-Le.term m) (sym c.in-Le.is) (turned m o.Le o.Ge c.args.x c.args.y _ v u (λ z w. refl) a b (c.in_ok-term-in-Le.ensures.told m u v b a))
+returns-in_ok-term-in-Le-clause-told c m v u a b = subst (λ op. Tells (operated op m.ints v u) c.in_ok-term-in-Le.term m) (sym c.in-Le.is)
+    (turned m o.Le o.Ge c.args.x c.args.y _ v u (λ z w. refl) a b (c.in_ok-term-in-Le.ensures.told m u v b a))
 
 pub returns-in_ok-term-in-Le-clause-sorted : goal.returns-in_ok-term-in-Le-clause-sorted
 returns-in_ok-term-in-Le-clause-sorted c p kinds x y = c.in_ok-term-in-Le.ensures.sorted p kinds y x
 
 pub returns-in_ok-term-in-Gt-clause-told : goal.returns-in_ok-term-in-Gt-clause-told
-returns-in_ok-term-in-Gt-clause-told c m v u a b = subst (λ op. Tells (operated op m.ints v u) c.in_ok-term-in-Gt.term m) (sym c.in-Gt.is) (turned m o.Gt o.Lt c.args.x c.args.y _ v u (λ z w. refl) a b (c.in_ok-term-in-Gt.ensures.told m u v b a))
+returns-in_ok-term-in-Gt-clause-told c m v u a b = subst (λ op. Tells (operated op m.ints v u) c.in_ok-term-in-Gt.term m) (sym c.in-Gt.is)
+    (turned m o.Gt o.Lt c.args.x c.args.y _ v u (λ z w. refl) a b (c.in_ok-term-in-Gt.ensures.told m u v b a))
 
 pub returns-in_ok-term-in-Gt-clause-sorted : goal.returns-in_ok-term-in-Gt-clause-sorted
 returns-in_ok-term-in-Gt-clause-sorted c p kinds x y = c.in_ok-term-in-Gt.ensures.sorted p kinds y x
@@ -78,7 +80,8 @@ pub returns-in_ok-term-in-Implies-clause-sorted : goal.returns-in_ok-term-in-Imp
 returns-in_ok-term-in-Implies-clause-sorted c p kinds x y = c.in_ok-term-in-Implies.ensures.sorted p kinds
 
 pub returns-in_ok-term-in-Iff-clause-told : goal.returns-in_ok-term-in-Iff-clause-told
-returns-in_ok-term-in-Iff-clause-told c m v u a b = subst (λ op. Tells (operated op m.ints v u) c.in_ok-term-in-Iff.term m) (sym c.in-Iff.is) (told_equivalent m c.args.x _ v u a (c.in_ok-term-in-Iff.ensures.told m))
+returns-in_ok-term-in-Iff-clause-told c m v u a b = subst (λ op. Tells (operated op m.ints v u) c.in_ok-term-in-Iff.term m) (sym c.in-Iff.is)
+    (told_equivalent m c.args.x _ v u a (c.in_ok-term-in-Iff.ensures.told m))
 
 pub returns-in_ok-term-in-Iff-clause-sorted : goal.returns-in_ok-term-in-Iff-clause-sorted
 returns-in_ok-term-in-Iff-clause-sorted c p kinds x y = c.in_ok-term-in-Iff.ensures.sorted p kinds

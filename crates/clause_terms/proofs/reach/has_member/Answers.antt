@@ -11,13 +11,15 @@ pub returns-in_ok-term-in-Set-clause-sorted : goal.returns-in_ok-term-in-Set-cla
 returns-in_ok-term-in-Set-clause-sorted c p kinds root relations member = c.in_ok-term-in-Set.ensures.sorted p kinds root relations (subst (λ s. is_sorted_shape p kinds s ≡ true) c.in-Set.is member)
 
 pub returns-in_ok-term-in-Number-clause-told : goal.returns-in_ok-term-in-Number-clause-told
-returns-in_ok-term-in-Number-clause-told c m env fields v u alike one two = has_no_member m env fields (shape.Number c.in-Number.field-0) _ v u refl (subst (λ s. HasValue m s u) c.in-Number.is two) (c.in_ok-term-in-Number.ensures.told m)
+returns-in_ok-term-in-Number-clause-told c m env fields v u alike one two = has_no_member m env fields (shape.Number c.in-Number.field-0) _ v u refl
+    (subst (λ s. HasValue m s u) c.in-Number.is two) (c.in_ok-term-in-Number.ensures.told m)
 
 pub returns-in_ok-term-in-Number-clause-sorted : goal.returns-in_ok-term-in-Number-clause-sorted
 returns-in_ok-term-in-Number-clause-sorted c p kinds root relations member = c.in_ok-term-in-Number.ensures.sorted p kinds
 
 pub returns-in_ok-term-in-Truth-clause-told : goal.returns-in_ok-term-in-Truth-clause-told
-returns-in_ok-term-in-Truth-clause-told c m env fields v u alike one two = has_no_member m env fields (shape.Truth c.in-Truth.field-0) _ v u refl (subst (λ s. HasValue m s u) c.in-Truth.is two) (c.in_ok-term-in-Truth.ensures.told m)
+returns-in_ok-term-in-Truth-clause-told c m env fields v u alike one two = has_no_member m env fields (shape.Truth c.in-Truth.field-0) _ v u refl
+    (subst (λ s. HasValue m s u) c.in-Truth.is two) (c.in_ok-term-in-Truth.ensures.told m)
 
 pub returns-in_ok-term-in-Truth-clause-sorted : goal.returns-in_ok-term-in-Truth-clause-sorted
 returns-in_ok-term-in-Truth-clause-sorted c p kinds root relations member = c.in_ok-term-in-Truth.ensures.sorted p kinds
