@@ -1,11 +1,62 @@
 -- What a term that tells the outcome of a form tells of the clause.
-use Rattle.std.proofs.Common.{◌≡◌, sym, ap, ◌∙◌, subst}
+use Rattle.std.proofs.Common.{◌≡◌, ℕ, Bool, true, false, ◌&&◌, List, map, Option, Some, None, refl, sym, ap, ◌∙◌, subst}
+use Rattle.std.specs.Prelude.{nat_lt, pos, slice_get, option_map, IsTrue}
+use Rattle.std.specs.Ordering.{int_eq}
+use Rattle.std.specs.List.{list_all}
+use Rattle.std.specs.Option.{option_map_or}
+use Rattle.std.proofs.lemmas.Option.{slice_get-map}
+use Rattle.taco_unit.specs.declared.kind.Kind.{Kind}
+use Rattle.taco_unit.specs.declared.kind.Kind.TheVariants as kind
+use Rattle.taco_unit.specs.declared.unit.FieldDef.{FieldDef}
 use Rattle.taco_unit.specs.declared.expr.Expr.{Expr}
 use Rattle.heap_core.specs.declared.value.Seen.{Seen}
+use Rattle.heap_core.specs.declared.value.Value.{Value}
+use Rattle.heap_core.specs.declared.value.Value.TheVariants.{Obj}
+use Rattle.heap_core.specs.Outcomes.{is_object, value_in}
+use Rattle.heap_core.specs.Posed.{Posed}
 use Rattle.heap_core.specs.Eval.{Env, eval}
+use Rattle.heap_core.proofs.Lists.{all_at}
+use Rattle.rel_core.specs.declared.indices.Indices.{Indices}
 use Rattle.rel_core.specs.Reading.{Reading}
+use Rattle.rel_core.specs.Meaning.{ValueSet, only_object, are_of}
+use Rattle.rel_core.specs.Uses.{Kinds, is_spread, same_use, use_of_kind}
+use Rattle.rel_core.specs.Shown.{live_relation, class_relation, field_relation}
+use Rattle.rel_core.specs.Laws.{is_of_shown}
 use Rattle.clause_terms.specs.declared.term.Term.{Term}
-use Rattle.clause_terms.specs.Terms.{Tells}
+use Rattle.clause_terms.specs.Terms.{IsOnly, Tells}
+use Rattle.clause_terms.proofs.Only.{class_one}
+use Rattle.clause_terms.proofs.FieldTerms.{flag_at_object, object_exact}
 
 pub as_form : (e f : Expr) (env : Env) (s : Seen) (t : Term) (m : Reading) → e ≡ f → eval f env ≡ s → Tells s t m → Tells (eval e env) t m
 as_form e f env s t m is gives told = subst (λ r. Tells r t m) (sym (ap (λ g. eval g env) is ∙ gives)) told
+
+-- a relation has the use of its field's kind
+same_use_is : (k : Kind) → same_use (use_of_kind k) (use_of_kind k) ≡ true
+same_use_is kind.Int = refl
+same_use_is kind.Flag = refl
+same_use_is (kind.Ref c) = refl
+
+pub field_spread : (p : Posed) (kinds : Kinds) (at : Indices) (f : ℕ) (d : FieldDef) → slice_get p.unit.fields f ≡ Some d → is_spread p kinds (use_of_kind d.kind) (field_relation at f) ≡ true
+field_spread p kinds at f d there = ap (λ e. option_map_or (same_use (use_of_kind d.kind)) (option_map (λ g. use_of_kind g.kind) e) false) there ∙ same_use_is d.kind
+
+-- the object of this number is there, and of the class
+pub told_guard : (m : Reading) (at : Indices) (s t : ValueSet) (c o : ℕ) (live of : Bool)
+    → IsTrue (nat_lt o m.objects) → s ≡ is_object o → t ≡ is_object o
+    → live ≡ option_map_or (m.flag (live_relation at)) (only_object m s) false → of ≡ are_of m t c (class_relation at)
+    → (live && of) ≡ is_of_shown m at c o
+told_guard m at s t c o live of below first second live_is of_is =
+    let alone : (r : ValueSet) → r ≡ is_object o → IsOnly m r (Obj o) = λ r is. record { reference = below; exact = λ u. ap (λ f. f u) is ∙ object_exact o u } in
+    let a : live ≡ m.flag (live_relation at) o = live_is ∙ flag_at_object m s o (live_relation at) (alone s first) in
+    let b : of ≡ int_eq (m.number (class_relation at) o) (pos c) = of_is ∙ class_one m t (Obj o) c (class_relation at) (alone t second) ∙ and_true (int_eq (m.number (class_relation at) o) (pos c)) in
+    rw (a, b) refl
+  where
+    and_true : (b : Bool) → (b && true) ≡ b
+    and_true true = refl
+    and_true false = refl
+
+-- an object of a quantified variable is below K
+pub bound_below : (k n i o : ℕ) (os : List ℕ) → n ≡ k → list_all (λ p. nat_lt p k) os ≡ true → slice_get os i ≡ Some o → nat_lt o n ≡ true
+bound_below k n i o os same all there = ap (nat_lt o) same ∙ all_at (λ p. nat_lt p k) os i o all there
+
+pub bound_is : (vs : List Value) (os : List ℕ) (i : ℕ) (o : Option ℕ) → vs ≡ map Obj os → slice_get os i ≡ o → value_in (slice_get vs i) ≡ value_in (option_map Obj o)
+bound_is vs os i o same there = ap (λ xs. value_in (slice_get xs i)) same ∙ ap value_in (slice_get-map Obj os i ∙ ap (option_map Obj) there)

@@ -31,7 +31,7 @@ pub struct Three {
 }
 
 /// The formulas of an outcome that is taken as it is.
-fn three(alloc: Global, term: Term) -> Result<Three, NoMemory>
+fn formulas_of(alloc: Global, term: Term) -> Result<Three, NoMemory>
     ensures told { IfOk result (λ t. (m : Reading) (x : Seen) → Tells x term m → ThreeTell x t m) }
     ensures sorted { IfOk result (λ t. (p : Posed) (kinds : Kinds) → IsSortedTerm p kinds term → AreSorted p kinds t) }
 {
@@ -76,6 +76,6 @@ pub fn clause_formulas(
         bound: &[],
     };
     let term = walk(alloc, place, &clause.expr)?;
-    let formulas = three(alloc, term)?;
+    let formulas = formulas_of(alloc, term)?;
     Ok(formulas)
 }

@@ -18,6 +18,7 @@ use crate::links::links;
 use crate::place::Place;
 use crate::variables::parameter;
 use clause_terms::{Instances, Term, Truth};
+use heap_core::well_posed;
 use no_memory::NoMemory;
 use rel_core::{Formula, RelExpr, RelVar};
 use sqlite_items::Boxed;
@@ -41,14 +42,21 @@ fn variable(alloc: Global, variable: Option<(Kind, RelVar)>) -> Result<Term, NoM
     }
 }
 
+/// The object of the quantified variable of this number.
+fn object_at(bound: &[u8], number: u8) -> Option<u8>
+    ensures { result ≡ slice_get bound.now number }
+{
+    bound.get(usize::from(number)).copied()
+}
+
 /// The object of a quantified variable, where it is there.
 fn bound(alloc: Global, place: Place<'_>, number: u8) -> Result<Term, NoMemory>
     ensures told { IfOk result (λ t. (env : Env) (m : Reading) → Shows (point_of place.entry) env m → Tells (value_in (slice_get env.bound number)) t m) }
     ensures sorted { IfOk result (λ t. (kinds : Kinds) → Sorts (point_of place.entry) kinds → IsSortedTerm (point_of place.entry).problem kinds t) }
 {
-    match place.bound.get(usize::from(number)) {
+    match object_at(place.bound, number) {
         Some(object) => {
-            let term = Term::object(alloc, *object)?;
+            let term = Term::object(alloc, object)?;
             Ok(term)
         }
         None => {
@@ -64,7 +72,8 @@ fn field(alloc: Global, place: Place<'_>, operand: Term, number: u8) -> Result<T
     ensures sorted { IfOk result (λ t. (kinds : Kinds) → IsSortedTerm (point_of place.entry).problem kinds operand → IsSortedTerm (point_of place.entry).problem kinds t) }
 {
     let problem = place.problem;
-    match problem.unit.fields.as_slice().get(usize::from(number)) {
+    well_posed(problem);
+    match problem.unit.fields.get(usize::from(number)) {
         Some(declared) => {
             let term = Term::read(alloc, operand, place.heap, number, declared)?;
             Ok(term)
@@ -81,10 +90,12 @@ fn guard(alloc: Global, place: Place<'_>, class: u8, object: u8) -> Result<Boxed
     ensures meaning { IfOk result (λ f. (m : Reading) → IsTrue (nat_lt object m.objects) → holds f m ≡ is_of_shown m (point_of place.entry).heap class object) }
     ensures sorted { IfOk result (λ f. (kinds : Kinds) → IsTrue (nat_lt object (point_of place.entry).problem.scope.objects) → IsTrue (is_sorted (point_of place.entry).problem kinds f)) }
 {
-    let set = RelExpr::object(alloc, object)?;
-    let live = Formula::flag_at(alloc, set, place.heap.live())?;
-    let set = RelExpr::object(alloc, object)?;
-    let of = Formula::is_class(alloc, set, class, place.heap.class())?;
+    let live_at = place.heap.live();
+    let class_at = place.heap.class();
+    let first = RelExpr::object(alloc, object)?;
+    let live = Formula::flag_at(alloc, first, live_at)?;
+    let second = RelExpr::object(alloc, object)?;
+    let of = Formula::is_class(alloc, second, class, class_at)?;
     let both = Formula::both(alloc, live, of)?;
     Ok(both)
 }
