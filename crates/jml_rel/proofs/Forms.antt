@@ -2,7 +2,8 @@
 use Rattle.std.proofs.Common.{◌≡◌, ℕ, Bool, true, false, ◌&&◌, List, map, Option, Some, None, refl, sym, ap, ◌∙◌, subst}
 use Rattle.std.specs.Prelude.{nat_lt, pos, slice_get, option_map, IsTrue}
 use Rattle.std.specs.Ordering.{int_eq}
-use Rattle.std.specs.List.{list_all}
+use Rattle.std.specs.List.{list_all, list_any}
+use Rattle.taco_unit.specs.Well.{IsWell}
 use Rattle.std.specs.Option.{option_map_or}
 use Rattle.std.proofs.lemmas.Option.{slice_get-map}
 use Rattle.taco_unit.specs.declared.kind.Kind.{Kind}
@@ -12,19 +13,25 @@ use Rattle.taco_unit.specs.declared.expr.Expr.{Expr}
 use Rattle.heap_core.specs.declared.value.Seen.{Seen}
 use Rattle.heap_core.specs.declared.value.Value.{Value}
 use Rattle.heap_core.specs.declared.value.Value.TheVariants.{Obj}
-use Rattle.heap_core.specs.Outcomes.{is_object, value_in}
+use Rattle.heap_core.specs.Outcomes.{gives_object, is_object, value_in}
+use Rattle.heap_core.specs.Heap.{field}
 use Rattle.heap_core.specs.Posed.{Posed}
 use Rattle.heap_core.specs.Eval.{Env, eval}
 use Rattle.heap_core.proofs.Lists.{all_at}
 use Rattle.rel_core.specs.declared.indices.Indices.{Indices}
+use Rattle.rel_core.specs.declared.relation.RelVar.{RelVar}
 use Rattle.rel_core.specs.Reading.{Reading}
-use Rattle.rel_core.specs.Meaning.{ValueSet, only_object, are_of}
+use Rattle.rel_core.specs.Meaning.{ValueSet, leads, only_object, are_of}
 use Rattle.rel_core.specs.Uses.{Kinds, is_spread, same_use, use_of_kind}
 use Rattle.rel_core.specs.Shown.{live_relation, class_relation, field_relation}
 use Rattle.rel_core.specs.Laws.{is_of_shown}
 use Rattle.clause_terms.specs.declared.term.Term.{Term}
 use Rattle.clause_terms.specs.Terms.{IsOnly, Tells}
+use Rattle.clause_terms.specs.Reaching.{LeadAlike}
 use Rattle.clause_terms.proofs.Only.{class_one}
+use Rattle.jml_rel.specs.Links.{links_of}
+use Rattle.jml_rel.specs.Places.{Point, Shows}
+use Rattle.jml_rel.proofs.Linking.{links_lead}
 use Rattle.clause_terms.proofs.FieldTerms.{flag_at_object, object_exact}
 
 pub as_form : (e f : Expr) (env : Env) (s : Seen) (t : Term) (m : Reading) → e ≡ f → eval f env ≡ s → Tells s t m → Tells (eval e env) t m
@@ -60,3 +67,15 @@ bound_below k n i o os same all there = ap (nat_lt o) same ∙ all_at (λ p. nat
 
 pub bound_is : (vs : List Value) (os : List ℕ) (i : ℕ) (o : Option ℕ) → vs ≡ map Obj os → slice_get os i ≡ o → value_in (slice_get vs i) ≡ value_in (option_map Obj o)
 bound_is vs os i o same there = ap (λ xs. value_in (slice_get xs i)) same ∙ ap value_in (slice_get-map Obj os i ∙ ap (option_map Obj) there)
+
+pub as_part : (e f : Expr) (env : Env) (t : Term) (m : Reading) → e ≡ f → Tells (eval e env) t m → Tells (eval f env) t m
+as_part e f env t m is told = subst (λ g. Tells (eval g env) t m) is told
+
+-- relations of fields lead where the fields do
+pub lead_alike : (q : Point) (env : Env) (m : Reading) (fs : List ℕ) (rs : List RelVar) → IsWell q.problem.unit → Shows q env m → rs ≡ links_of q.problem.unit.fields q.heap fs → LeadAlike m rs env fs
+lead_alike q env m fs rs well shown is = record {
+  objects = shown.numbers;
+  ints = shown.ints;
+  edges = λ p o. ap (λ rs. leads m rs p o) is ∙ links_lead q.problem.unit m q.heap env.heap well shown.heap p o fs
+    ∙ ap (λ cs. list_any (λ f. gives_object o (field cs env.heap f (Obj p))) fs) (sym shown.classes);
+}

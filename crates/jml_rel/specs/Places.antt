@@ -79,9 +79,6 @@ pub record Sorts (q : Point) (kinds : Kinds) : Type 0 where
   pub result : SortsVariable q.problem kinds q.result
   pub below : IsTrue (list_all (λ o. nat_lt o q.problem.scope.objects) q.bound)
 
--- in the pre-state; with one quantified variable more
+-- in the pre-state
 abbrev pub past : Point → Point
 past q = record q { heap = q.before }
-
-abbrev pub with_bound : Point → ℕ → Point
-with_bound q o = record q { bound = q.bound ++ o ∷ [] }

@@ -4,7 +4,7 @@ ghost use Rattle.heap_core.specs.declared.value.Seen.{Seen};
 ghost use Rattle.heap_core.specs.Posed.{Posed};
 ghost use Rattle.heap_core.specs.Outcomes.{value_in, with_value};
 ghost use Rattle.heap_core.specs.Heap.{field as field_lem};
-ghost use Rattle.heap_core.specs.Eval.{Env, binary, eval};
+ghost use Rattle.heap_core.specs.Eval.{Env, binary, eval, has, size};
 ghost use Rattle.rel_core.specs.Reading.{Reading};
 ghost use Rattle.rel_core.specs.Uses.{Kinds, is_sorted};
 ghost use Rattle.rel_core.specs.Meaning.{holds};
@@ -100,6 +100,30 @@ fn guard(alloc: Global, place: Place<'_>, class: u8, object: u8) -> Result<Boxed
     Ok(both)
 }
 
+/// `.has` of a `\reach` along these fields.
+fn member_of(alloc: Global, place: Place<'_>, root: Term, fields: &[u8], member: Term) -> Result<Term, NoMemory>
+    ensures told { IfOk result (λ t. (env : Env) (m : Reading) (x y : Seen) → Shows (point_of place.entry) env m → Tells x root m → Tells y member m → Tells (with_value x (λ v. with_value y (has env fields.now v))) t m) }
+    ensures sorted { IfOk result (λ t. (kinds : Kinds) → IsSortedTerm (point_of place.entry).problem kinds root → IsSortedTerm (point_of place.entry).problem kinds member → IsSortedTerm (point_of place.entry).problem kinds t) }
+{
+    let problem = place.problem;
+    well_posed(problem);
+    let relations = links(alloc, problem.unit.fields.as_slice(), place.heap, fields)?;
+    let term = Term::has(alloc, root, relations.as_slice(), member)?;
+    Ok(term)
+}
+
+/// `.int_size` of a `\reach` along these fields.
+fn size_from(alloc: Global, place: Place<'_>, root: Term, fields: &[u8]) -> Result<Term, NoMemory>
+    ensures told { IfOk result (λ t. (env : Env) (m : Reading) (x : Seen) → Shows (point_of place.entry) env m → Tells x root m → Tells (with_value x (size env fields.now)) t m) }
+    ensures sorted { IfOk result (λ t. (kinds : Kinds) → IsSortedTerm (point_of place.entry).problem kinds root → IsSortedTerm (point_of place.entry).problem kinds t) }
+{
+    let problem = place.problem;
+    well_posed(problem);
+    let relations = links(alloc, problem.unit.fields.as_slice(), place.heap, fields)?;
+    let term = Term::size(alloc, root, relations.as_slice())?;
+    Ok(term)
+}
+
 /// The objects of the quantified variables around an instance, its own last.
 fn with_bound(alloc: Global, bound: &[u8], object: u8) -> Result<Vec<u8>, NoMemory>
     ensures { IfOk result (λ all. all.items ≡ bound.now ++ object ∷ []) }
@@ -170,13 +194,12 @@ fn chained(alloc: Global, place: Place<'_>, any: bool, expr: &Expr, rest: Truth)
     }
 }
 
-/// An operator of two parts. Chains of `&&` and of `||` go to the right.
+/// An operator of a part and of what the part behind it gives. Chains of `&&` and of `||` go to the right.
 #[cycle(walk)]
-fn operated(alloc: Global, place: Place<'_>, op: Op, left: &Expr, right: &Expr) -> Result<Term, NoMemory>
-    ensures told { IfOk result (λ t. (env : Env) (m : Reading) → Shows (point_of place.entry) env m → Tells (binary op m.ints (eval left.now env) (eval right.now env)) t m) }
-    ensures sorted { IfOk result (λ t. (kinds : Kinds) → Sorts (point_of place.entry) kinds → IsSortedTerm (point_of place.entry).problem kinds t) }
+fn operated(alloc: Global, place: Place<'_>, op: Op, left: &Expr, second: Term) -> Result<Term, NoMemory>
+    ensures told { IfOk result (λ t. (env : Env) (m : Reading) (y : Seen) → Shows (point_of place.entry) env m → Tells y second m → Tells (binary op m.ints (eval left.now env) y) t m) }
+    ensures sorted { IfOk result (λ t. (kinds : Kinds) → Sorts (point_of place.entry) kinds → IsSortedTerm (point_of place.entry).problem kinds second → IsSortedTerm (point_of place.entry).problem kinds t) }
 {
-    let second = walk(alloc, place, right)?;
     match op {
         Op::And => {
             let rest = Truth::of(alloc, second)?;
@@ -227,6 +250,7 @@ fn quantified(alloc: Global, place: Place<'_>, quant: &Quant) -> Result<Term, No
     ensures sorted { IfOk result (λ t. (kinds : Kinds) → Sorts (point_of place.entry) kinds → IsSortedTerm (point_of place.entry).problem kinds t) }
 {
     let problem = place.problem;
+    well_posed(problem);
     let mut instances = Instances::new(alloc);
     for object in 0..problem.scope.objects {
         let bound = with_bound(alloc, place.bound, object)?;
@@ -294,7 +318,8 @@ pub(crate) fn walk(alloc: Global, place: Place<'_>, expr: &Expr) -> Result<Term,
             Ok(term)
         }
         Expr::Bin(op, a, b) => {
-            let term = operated(alloc, place, *op, a.get(), b.get())?;
+            let second = walk(alloc, place, b.get())?;
+            let term = operated(alloc, place, *op, a.get(), second)?;
             Ok(term)
         }
         Expr::Quant(quant) => {
@@ -312,14 +337,12 @@ pub(crate) fn walk(alloc: Global, place: Place<'_>, expr: &Expr) -> Result<Term,
         Expr::Has(reach, a) => {
             let root = walk(alloc, place, reach.from.get())?;
             let member = walk(alloc, place, a.get())?;
-            let relations = links(alloc, problem.unit.fields.as_slice(), place.heap, reach.fields.as_slice())?;
-            let term = Term::has(alloc, root, relations.as_slice(), member)?;
+            let term = member_of(alloc, place, root, reach.fields.as_slice(), member)?;
             Ok(term)
         }
         Expr::Size(reach) => {
             let root = walk(alloc, place, reach.from.get())?;
-            let relations = links(alloc, problem.unit.fields.as_slice(), place.heap, reach.fields.as_slice())?;
-            let term = Term::size(alloc, root, relations.as_slice())?;
+            let term = size_from(alloc, place, root, reach.fields.as_slice())?;
             Ok(term)
         }
         Expr::New(_) => {
