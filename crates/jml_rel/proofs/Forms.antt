@@ -10,13 +10,15 @@ use Rattle.taco_unit.specs.declared.kind.Kind.{Kind}
 use Rattle.taco_unit.specs.declared.kind.Kind.TheVariants as kind
 use Rattle.taco_unit.specs.declared.unit.FieldDef.{FieldDef}
 use Rattle.taco_unit.specs.declared.expr.Expr.{Expr}
+use Rattle.taco_unit.specs.declared.expr.Quant.{Quant, out-Quant}
+use Rattle.taco_unit.specs.declared.expr.Op.TheVariants as op
 use Rattle.heap_core.specs.declared.value.Seen.{Seen}
 use Rattle.heap_core.specs.declared.value.Value.{Value}
 use Rattle.heap_core.specs.declared.value.Value.TheVariants.{Obj}
-use Rattle.heap_core.specs.Outcomes.{gives_object, is_object, value_in}
+use Rattle.heap_core.specs.Outcomes.{as_flag, gives_object, is_object, value_in}
 use Rattle.heap_core.specs.Heap.{field}
 use Rattle.heap_core.specs.Posed.{Posed}
-use Rattle.heap_core.specs.Eval.{Env, eval}
+use Rattle.heap_core.specs.Eval.{Env, eval, binary, instance_of}
 use Rattle.heap_core.proofs.Lists.{all_at}
 use Rattle.rel_core.specs.declared.indices.Indices.{Indices}
 use Rattle.rel_core.specs.declared.relation.RelVar.{RelVar}
@@ -26,7 +28,11 @@ use Rattle.rel_core.specs.Uses.{Kinds, is_spread, same_use, use_of_kind}
 use Rattle.rel_core.specs.Shown.{live_relation, class_relation, field_relation}
 use Rattle.rel_core.specs.Laws.{is_of_shown}
 use Rattle.clause_terms.specs.declared.term.Term.{Term}
-use Rattle.clause_terms.specs.Terms.{IsOnly, Tells}
+use Rattle.clause_terms.specs.declared.term.Truth.{Truth}
+use Rattle.clause_terms.specs.Terms.{IsOnly, Judges, Tells}
+use Rattle.clause_terms.proofs.Flags.{judges_as_flag}
+use Rattle.clause_terms.proofs.Settled.{flags_settle}
+use Rattle.jml_rel.specs.Parts.{instance_at, range_operator}
 use Rattle.clause_terms.specs.Reaching.{LeadAlike}
 use Rattle.clause_terms.proofs.Only.{class_one}
 use Rattle.jml_rel.specs.Links.{links_of}
@@ -79,3 +85,25 @@ lead_alike q env m fs rs well shown is = record {
   edges = λ p o. ap (λ rs. leads m rs p o) is ∙ links_lead q.problem.unit m q.heap env.heap well shown.heap p o fs
     ∙ ap (λ cs. list_any (λ f. gives_object o (field cs env.heap f (Obj p))) fs) (sym shown.classes);
 }
+
+-- ## instances of quantifiers
+
+pub instance_settled : (q : Quant) (env : Env) → as_flag (instance_at q env) ≡ instance_at q env
+instance_settled q env = flags_settle.instance_settled (out-Quant q).all (option_map eval (out-Quant q).range) (eval (out-Quant q).body) env
+
+instance_range_none : (all : Bool) (range : Option Expr) (body : Expr) (env : Env) → range ≡ None → instance_of all (option_map eval range) (eval body) env ≡ as_flag (eval body env)
+instance_range_none true range body env is = ap (λ r. instance_of true (option_map eval r) (eval body) env) is
+instance_range_none false range body env is = ap (λ r. instance_of false (option_map eval r) (eval body) env) is
+
+pub instance_none : (q : Quant) (env : Env) (t : Truth) (m : Reading) → (out-Quant q).range ≡ None → Judges (eval (out-Quant q).body env) t m → Judges (instance_at q env) t m
+instance_none q env t m is judged =
+    subst (λ s. Judges s t m) (sym (instance_range_none (out-Quant q).all (out-Quant q).range (out-Quant q).body env is)) (judges_as_flag (eval (out-Quant q).body env) t m judged)
+
+-- the operator between the range of a quantifier and its body
+pub instance_some : (q : Quant) (env : Env) (r : Expr) (all : Bool) (t : Truth) (m : Reading) → (out-Quant q).range ≡ Some r → (out-Quant q).all ≡ all → m.ints ≡ env.ints
+    → Judges (binary (range_operator all) m.ints (eval r env) (eval (out-Quant q).body env)) t m → Judges (instance_at q env) t m
+instance_some q env r all t m is every ints judged = subst (λ s. Judges s t m) (go all every) judged
+  where
+    go : (all : Bool) → (out-Quant q).all ≡ all → binary (range_operator all) m.ints (eval r env) (eval (out-Quant q).body env) ≡ instance_at q env
+    go true every = ap (λ w. binary op.Implies w (eval r env) (eval (out-Quant q).body env)) ints ∙ sym (ap (λ x. instance_of (out-Quant q).all (option_map eval x) (eval (out-Quant q).body) env) is ∙ ap (λ a. instance_of a (Some (eval r)) (eval (out-Quant q).body) env) every)
+    go false every = ap (λ w. binary op.And w (eval r env) (eval (out-Quant q).body env)) ints ∙ sym (ap (λ x. instance_of (out-Quant q).all (option_map eval x) (eval (out-Quant q).body) env) is ∙ ap (λ a. instance_of a (Some (eval r)) (eval (out-Quant q).body) env) every)

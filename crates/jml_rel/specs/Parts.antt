@@ -12,6 +12,11 @@ abbrev pub chain_operator : Bool → Op
 chain_operator true = op.Or
 chain_operator false = op.And
 
+-- the operator between the range of a quantifier and its body
+abbrev pub range_operator : Bool → Op
+range_operator true = op.Implies
+range_operator false = op.And
+
 -- one instance of a quantifier, whose variable is bound
 abbrev pub instance_at : Quant → Env → Seen
 instance_at q = instance_of (out-Quant q).all (option_map eval (out-Quant q).range) (eval (out-Quant q).body)
