@@ -10,6 +10,8 @@ use Rattle.taco_unit.specs.declared.kind.Kind.{Kind}
 use Rattle.taco_unit.specs.declared.kind.Kind.TheVariants as kind
 use Rattle.taco_unit.specs.declared.unit.FieldDef.{FieldDef}
 use Rattle.taco_unit.specs.declared.expr.Expr.{Expr}
+use Rattle.taco_unit.specs.declared.expr.Expr.TheVariants as e
+use Rattle.taco_unit.specs.declared.expr.Op.{Op}
 use Rattle.taco_unit.specs.declared.expr.Quant.{Quant, out-Quant}
 use Rattle.taco_unit.specs.declared.expr.Op.TheVariants as op
 use Rattle.heap_core.specs.declared.value.Seen.{Seen}
@@ -19,6 +21,7 @@ use Rattle.heap_core.specs.Outcomes.{as_flag, gives_object, is_object, value_in}
 use Rattle.heap_core.specs.Heap.{field}
 use Rattle.heap_core.specs.Posed.{Posed}
 use Rattle.heap_core.specs.Eval.{Env, eval, binary, instance_of}
+use Rattle.heap_core.proofs.EvalForms.{eval_bin}
 use Rattle.heap_core.proofs.Lists.{all_at}
 use Rattle.rel_core.specs.declared.indices.Indices.{Indices}
 use Rattle.rel_core.specs.declared.relation.RelVar.{RelVar}
@@ -31,8 +34,8 @@ use Rattle.clause_terms.specs.declared.term.Term.{Term}
 use Rattle.clause_terms.specs.declared.term.Truth.{Truth}
 use Rattle.clause_terms.specs.Terms.{IsOnly, Judges, Tells}
 use Rattle.clause_terms.proofs.Flags.{judges_as_flag}
-use Rattle.clause_terms.proofs.Settled.{flags_settle}
-use Rattle.jml_rel.specs.Parts.{instance_at, range_operator}
+use Rattle.clause_terms.proofs.Settled.{chains_go_right, flags_settle}
+use Rattle.jml_rel.specs.Parts.{chain_operator, instance_at, range_operator}
 use Rattle.clause_terms.specs.Reaching.{LeadAlike}
 use Rattle.clause_terms.proofs.Only.{class_one}
 use Rattle.jml_rel.specs.Links.{links_of}
@@ -107,3 +110,25 @@ instance_some q env r all t m is every ints judged = subst (λ s. Judges s t m) 
     go : (all : Bool) → (out-Quant q).all ≡ all → binary (range_operator all) m.ints (eval r env) (eval (out-Quant q).body env) ≡ instance_at q env
     go true every = ap (λ w. binary op.Implies w (eval r env) (eval (out-Quant q).body env)) ints ∙ sym (ap (λ x. instance_of (out-Quant q).all (option_map eval x) (eval (out-Quant q).body) env) is ∙ ap (λ a. instance_of a (Some (eval r)) (eval (out-Quant q).body) env) every)
     go false every = ap (λ w. binary op.And w (eval r env) (eval (out-Quant q).body env)) ints ∙ sym (ap (λ x. instance_of (out-Quant q).all (option_map eval x) (eval (out-Quant q).body) env) is ∙ ap (λ a. instance_of a (Some (eval r)) (eval (out-Quant q).body) env) every)
+
+-- ## chains
+
+chain_law : (any : Bool) (w : ℕ) (x y z : Seen) → binary (chain_operator any) w (binary (chain_operator any) w x y) z ≡ binary (chain_operator any) w x (binary (chain_operator any) w y z)
+chain_law true w x y z = chains_go_right.or_chain w x y z
+chain_law false w x y z = chains_go_right.and_chain w x y z
+
+pub chain_step : (any : Bool) (expr a b first second : Expr) (o : Op) (env : Env) (y : Seen) (t : Truth) (m : Reading)
+    → expr ≡ e.Bin o a b → o ≡ chain_operator any → first ≡ a → second ≡ b → m.ints ≡ env.ints
+    → Judges (binary (chain_operator any) m.ints (eval first env) (binary (chain_operator any) m.ints (eval second env) y)) t m
+    → Judges (binary (chain_operator any) m.ints (eval expr env) y) t m
+chain_step any expr a b first second o env y t m is op_is one two ints judged =
+    let whole : eval expr env ≡ binary (chain_operator any) m.ints (eval a env) (eval b env) =
+    ap (λ g. eval g env) is ∙ eval_bin o a b env ∙ ap (λ k. binary k env.ints (eval a env) (eval b env)) op_is ∙ ap (λ w. binary (chain_operator any) w (eval a env) (eval b env)) (sym ints)
+    in
+    let turned : binary (chain_operator any) m.ints (eval expr env) y ≡ binary (chain_operator any) m.ints (eval a env) (binary (chain_operator any) m.ints (eval b env) y) =
+    ap (λ x. binary (chain_operator any) m.ints x y) whole ∙ chain_law any m.ints (eval a env) (eval b env) y
+    in
+    let parts : binary (chain_operator any) m.ints (eval first env) (binary (chain_operator any) m.ints (eval second env) y) ≡ binary (chain_operator any) m.ints (eval a env) (binary (chain_operator any) m.ints (eval b env) y) =
+    ap (λ f. binary (chain_operator any) m.ints (eval f env) (binary (chain_operator any) m.ints (eval second env) y)) one ∙ ap (λ s. binary (chain_operator any) m.ints (eval a env) (binary (chain_operator any) m.ints (eval s env) y)) two
+    in
+    subst (λ s. Judges s t m) (parts ∙ sym turned) judged

@@ -1,4 +1,4 @@
-use Rattle.std.proofs.Common.{rules, arith, ◌≡◌, true, ◌++◌, ◌∷◌, [], refl, sym, ap, ◌∙◌, subst}
+use Rattle.std.proofs.Common.{rules, arith, ◌≡◌, true, false, ◌++◌, ◌∷◌, [], refl, sym, ap, ◌∙◌, subst}
 use Rattle.std.specs.Prelude.{nat_lt, slice_get}
 use Rattle.std.proofs.lemmas.Bool.{lt-ltb}
 use Rattle.taco_unit.specs.declared.expr.Expr.TheVariants as e
@@ -16,7 +16,7 @@ use Rattle.clause_terms.proofs.Settled.{flags_settle}
 use Rattle.jml_rel.specs.Parts.{chain_operator, instance_at, quantified_at}
 use Rattle.jml_rel.specs.Places.{ShowsVariable, SortsVariable}
 use Rattle.jml_rel.specs.Points.{point_of}
-use Rattle.jml_rel.proofs.Forms.{as_form, as_part, instance_none, instance_settled}
+use Rattle.jml_rel.proofs.Forms.{as_form, as_part, chain_step, instance_none, instance_some, instance_settled}
 use Rattle.jml_rel.proofs.Shown.{shows_past, shows_bound, sorts_past, sorts_bound}
 use Rattle.jml_rel.proofs.walk.+walk.Goals as goal
 
@@ -59,10 +59,10 @@ pub walk-returns-in_ok-term-in-Old-clause-told : goal.walk-returns-in_ok-term-in
 walk-returns-in_ok-term-in-Old-clause-told t c env m shown = as_form c.args.expr.now (e.Old c.in-Old.a) env (eval c.in-Old.a (before env)) c.in_ok-term-in-Old.term m c.in-Old.is (eval_old c.in-Old.a env) (as_part c.get-in-Old.result.now c.in-Old.a (before env) c.in_ok-term-in-Old.term m c.get-in-Old.ensures (c.in_ok-term-in-Old.ensures.told (before env) m (shows_past (point_of c.args.place) env m shown)))
 
 pub walk-returns-in_ok-term-in-Has-clause-told : goal.walk-returns-in_ok-term-in-Has-clause-told
-walk-returns-in_ok-term-in-Has-clause-told t c env m shown = as_form c.args.expr.now (e.Has c.in-Has.reach c.in-Has.a) env (with_value (eval c.in-Has.reach.from env) (λ v. with_value (eval c.in-Has.a env) (has env c.in-Has.reach.fields v))) c.in_ok-term-in-Has.term m c.in-Has.is (eval_has c.in-Has.reach c.in-Has.a env) ?
+walk-returns-in_ok-term-in-Has-clause-told t c env m shown = as_form c.args.expr.now (e.Has c.in-Has.reach c.in-Has.a) env (with_value (eval c.in-Has.reach.from env) (λ v. with_value (eval c.in-Has.a env) (has env c.in-Has.reach.fields v))) c.in_ok-term-in-Has.term m c.in-Has.is (eval_has c.in-Has.reach c.in-Has.a env) (subst (λ fs. Tells (with_value (eval c.in-Has.reach.from env) (λ v. with_value (eval c.in-Has.a env) (has env fs v))) c.in_ok-term-in-Has.term m) c.as_slice.ensures (c.in_ok-term-in-Has.ensures.told env m (eval c.in-Has.reach.from env) (eval c.in-Has.a env) shown (as_part c.get-in-Has.result.now c.in-Has.reach.from env c.in_ok-root-in-Has.root m c.get-in-Has.ensures (c.in_ok-root-in-Has.ensures.told env m shown)) (as_part c.get-in-Has-2.result.now c.in-Has.a env c.in_ok-member-in-Has.member m c.get-in-Has-2.ensures (c.in_ok-member-in-Has.ensures.told env m shown))))
 
 pub walk-returns-in_ok-term-in-Size-clause-told : goal.walk-returns-in_ok-term-in-Size-clause-told
-walk-returns-in_ok-term-in-Size-clause-told t c env m shown = as_form c.args.expr.now (e.Size c.in-Size.reach) env (with_value (eval c.in-Size.reach.from env) (size env c.in-Size.reach.fields)) c.in_ok-term-in-Size.term m c.in-Size.is (eval_size c.in-Size.reach env) ?
+walk-returns-in_ok-term-in-Size-clause-told t c env m shown = as_form c.args.expr.now (e.Size c.in-Size.reach) env (with_value (eval c.in-Size.reach.from env) (size env c.in-Size.reach.fields)) c.in_ok-term-in-Size.term m c.in-Size.is (eval_size c.in-Size.reach env) (subst (λ fs. Tells (with_value (eval c.in-Size.reach.from env) (size env fs)) c.in_ok-term-in-Size.term m) c.as_slice-in-Size.ensures (c.in_ok-term-in-Size.ensures.told env m (eval c.in-Size.reach.from env) shown (as_part c.get-in-Size.result.now c.in-Size.reach.from env c.in_ok-root-in-Size.root m c.get-in-Size.ensures (c.in_ok-root-in-Size.ensures.told env m shown))))
 
 pub walk-returns-in_ok-term-in-New-clause-told : goal.walk-returns-in_ok-term-in-New-clause-told
 walk-returns-in_ok-term-in-New-clause-told t c env m shown = as_form c.args.expr.now (e.New c.in-New.field-0) env Out c.in_ok-term-in-New.term m c.in-New.is (eval_new c.in-New.field-0 env) (c.in_ok-term-in-New.ensures.told m)
@@ -128,10 +128,12 @@ pub last-returns-clause-sorted : goal.last-returns-clause-sorted
 last-returns-clause-sorted t c kinds sorts rest = c.in_ok-chain.ensures.sorted c.args.place.problem.now kinds (c.in_ok-truth.ensures.sorted c.args.place.problem.now kinds (c.in_ok-term.ensures.sorted kinds sorts)) rest
 
 pub chained-returns-in_ok-chain-in-Bin-clause-told : goal.chained-returns-in_ok-chain-in-Bin-clause-told
-chained-returns-in_ok-chain-in-Bin-clause-told t c = ?
+chained-returns-in_ok-chain-in-Bin-clause-told t c env m y shown rest = 
+    chain_step c.args.any c.args.expr.now c.in-Bin.a c.in-Bin.b c.get-then-is_chain.result.now c.get.result.now c.in-Bin.op env y c.in_ok-chain-in-Bin.chain m c.in-Bin.is (c.is_chain.ensures c.if-is_chain.true) c.get-then-is_chain.ensures c.get.ensures shown.ints
+      (c.in_ok-chain-in-Bin.ensures.told env m (binary (chain_operator c.args.any) m.ints (eval c.get.result.now env) y) shown (c.in_ok-behind-in-Bin.ensures.told env m y shown rest))
 
 pub chained-returns-in_ok-chain-in-Bin-clause-sorted : goal.chained-returns-in_ok-chain-in-Bin-clause-sorted
-chained-returns-in_ok-chain-in-Bin-clause-sorted t c = ?
+chained-returns-in_ok-chain-in-Bin-clause-sorted t c kinds sorts rest = c.in_ok-chain-in-Bin.ensures.sorted kinds sorts (c.in_ok-behind-in-Bin.ensures.sorted kinds sorts rest)
 
 pub operated-returns-in_ok-chain-in-And-clause-told : goal.operated-returns-in_ok-chain-in-And-clause-told
 operated-returns-in_ok-chain-in-And-clause-told t c env m y shown told = 
@@ -164,16 +166,16 @@ pub instance-returns-in-None-clause-sorted : goal.instance-returns-in-None-claus
 instance-returns-in-None-clause-sorted t c kinds sorts = c.in_ok-body-2.ensures.sorted c.args.place.problem.now kinds (c.in_ok-body.ensures.sorted kinds sorts)
 
 pub instance-returns-in_ok-instance-in-Some-clause-told : goal.instance-returns-in_ok-instance-in-Some-clause-told
-instance-returns-in_ok-instance-in-Some-clause-told t c = ?
+instance-returns-in_ok-instance-in-Some-clause-told t c env m shown = instance_some c.args.quant.now env c.in-Some.range true c.in_ok-instance-in-Some.instance m c.in-Some.is c.if-quant.true shown.ints (c.in_ok-instance-in-Some.ensures.told m (eval c.in-Some.range env) (eval c.args.quant.now.body env) (c.in_ok-within-in-Some-2.ensures.told m (eval c.in-Some.range env) (as_part c.get-in-Some.result.now c.in-Some.range env c.in_ok-within-in-Some.within m c.get-in-Some.ensures (c.in_ok-within-in-Some.ensures.told env m shown))) (c.in_ok-body-2.ensures.told m (eval c.args.quant.now.body env) (as_part c.get.result.now c.args.quant.now.body env c.in_ok-body.body m c.get.ensures (c.in_ok-body.ensures.told env m shown))))
 
 pub instance-returns-in_ok-instance-in-Some-clause-sorted : goal.instance-returns-in_ok-instance-in-Some-clause-sorted
-instance-returns-in_ok-instance-in-Some-clause-sorted t c = ?
+instance-returns-in_ok-instance-in-Some-clause-sorted t c kinds sorts = c.in_ok-instance-in-Some.ensures.sorted c.args.place.problem.now kinds (c.in_ok-within-in-Some-2.ensures.sorted c.args.place.problem.now kinds (c.in_ok-within-in-Some.ensures.sorted kinds sorts)) (c.in_ok-body-2.ensures.sorted c.args.place.problem.now kinds (c.in_ok-body.ensures.sorted kinds sorts))
 
 pub instance-returns-in_ok-instance-in-Some-2-clause-told : goal.instance-returns-in_ok-instance-in-Some-2-clause-told
-instance-returns-in_ok-instance-in-Some-2-clause-told t c = ?
+instance-returns-in_ok-instance-in-Some-2-clause-told t c env m shown = instance_some c.args.quant.now env c.in-Some.range false c.in_ok-instance-in-Some-2.instance m c.in-Some.is c.if-quant.false shown.ints (c.in_ok-instance-in-Some-2.ensures.told m (eval c.in-Some.range env) (eval c.args.quant.now.body env) (c.in_ok-within-in-Some-2.ensures.told m (eval c.in-Some.range env) (as_part c.get-in-Some.result.now c.in-Some.range env c.in_ok-within-in-Some.within m c.get-in-Some.ensures (c.in_ok-within-in-Some.ensures.told env m shown))) (c.in_ok-body-2.ensures.told m (eval c.args.quant.now.body env) (as_part c.get.result.now c.args.quant.now.body env c.in_ok-body.body m c.get.ensures (c.in_ok-body.ensures.told env m shown))))
 
 pub instance-returns-in_ok-instance-in-Some-2-clause-sorted : goal.instance-returns-in_ok-instance-in-Some-2-clause-sorted
-instance-returns-in_ok-instance-in-Some-2-clause-sorted t c = ?
+instance-returns-in_ok-instance-in-Some-2-clause-sorted t c kinds sorts = c.in_ok-instance-in-Some-2.ensures.sorted c.args.place.problem.now kinds (c.in_ok-within-in-Some-2.ensures.sorted c.args.place.problem.now kinds (c.in_ok-within-in-Some.ensures.sorted kinds sorts)) (c.in_ok-body-2.ensures.sorted c.args.place.problem.now kinds (c.in_ok-body.ensures.sorted kinds sorts))
 
 pub quantified-returns-clause-told : goal.quantified-returns-clause-told
 quantified-returns-clause-told t c env m shown = 
