@@ -45,7 +45,7 @@ heap_alone at = record at { slots = []; result = 0 }
 pub record ShowsPosedHeap (p : Posed) (m : Reading) (at : Indices) (heap : Heap) : Type 0 where
   pub objects : m.objects ≡ p.scope.objects
   pub ints : m.ints ≡ p.scope.ints
-  pub heap : ShowsHeap p.unit m at heap
+  pub shown : ShowsHeap p.unit m at heap
 
 -- the formula holds exactly where the heap is good; where no invariant of one of its objects is Out
 abbrev pub SaysGood : Posed → Indices → Formula → Type 0
