@@ -86,7 +86,7 @@ lead_alike q env m fs rs well shown is = record {
   objects = shown.numbers;
   ints = shown.ints;
   edges = λ p o. ap (λ rs. leads m rs p o) is ∙ links_lead q.problem.unit m q.heap env.heap well shown.heap p o fs
-    ∙ ap (λ cs. list_any (λ f. gives_object o (field cs env.heap f (Obj p))) fs) (sym shown.classes);
+      ∙ ap (λ cs. list_any (λ f. gives_object o (field cs env.heap f (Obj p))) fs) (sym shown.classes);
 }
 
 -- ## instances of quantifiers
@@ -108,8 +108,10 @@ pub instance_some : (q : Quant) (env : Env) (r : Expr) (all : Bool) (t : Truth) 
 instance_some q env r all t m is every ints judged = subst (λ s. Judges s t m) (go all every) judged
   where
     go : (all : Bool) → (out-Quant q).all ≡ all → binary (range_operator all) m.ints (eval r env) (eval (out-Quant q).body env) ≡ instance_at q env
-    go true every = ap (λ w. binary op.Implies w (eval r env) (eval (out-Quant q).body env)) ints ∙ sym (ap (λ x. instance_of (out-Quant q).all (option_map eval x) (eval (out-Quant q).body) env) is ∙ ap (λ a. instance_of a (Some (eval r)) (eval (out-Quant q).body) env) every)
-    go false every = ap (λ w. binary op.And w (eval r env) (eval (out-Quant q).body env)) ints ∙ sym (ap (λ x. instance_of (out-Quant q).all (option_map eval x) (eval (out-Quant q).body) env) is ∙ ap (λ a. instance_of a (Some (eval r)) (eval (out-Quant q).body) env) every)
+    go true every = ap (λ w. binary op.Implies w (eval r env) (eval (out-Quant q).body env)) ints
+        ∙ sym (ap (λ x. instance_of (out-Quant q).all (option_map eval x) (eval (out-Quant q).body) env) is ∙ ap (λ a. instance_of a (Some (eval r)) (eval (out-Quant q).body) env) every)
+    go false every = ap (λ w. binary op.And w (eval r env) (eval (out-Quant q).body env)) ints
+        ∙ sym (ap (λ x. instance_of (out-Quant q).all (option_map eval x) (eval (out-Quant q).body) env) is ∙ ap (λ a. instance_of a (Some (eval r)) (eval (out-Quant q).body) env) every)
 
 -- ## chains
 
@@ -128,7 +130,9 @@ chain_step any expr a b first second o env y t m is op_is one two ints judged =
     let turned : binary (chain_operator any) m.ints (eval expr env) y ≡ binary (chain_operator any) m.ints (eval a env) (binary (chain_operator any) m.ints (eval b env) y) =
     ap (λ x. binary (chain_operator any) m.ints x y) whole ∙ chain_law any m.ints (eval a env) (eval b env) y
     in
-    let parts : binary (chain_operator any) m.ints (eval first env) (binary (chain_operator any) m.ints (eval second env) y) ≡ binary (chain_operator any) m.ints (eval a env) (binary (chain_operator any) m.ints (eval b env) y) =
-    ap (λ f. binary (chain_operator any) m.ints (eval f env) (binary (chain_operator any) m.ints (eval second env) y)) one ∙ ap (λ s. binary (chain_operator any) m.ints (eval a env) (binary (chain_operator any) m.ints (eval s env) y)) two
+    let parts : binary (chain_operator any) m.ints (eval first env) (binary (chain_operator any) m.ints (eval second env) y) ≡ binary (chain_operator any) m.ints (eval a env)
+    (binary (chain_operator any) m.ints (eval b env) y) =
+    ap (λ f. binary (chain_operator any) m.ints (eval f env) (binary (chain_operator any) m.ints (eval second env) y)) one
+    ∙ ap (λ s. binary (chain_operator any) m.ints (eval a env) (binary (chain_operator any) m.ints (eval s env) y)) two
     in
     subst (λ s. Judges s t m) (parts ∙ sym turned) judged

@@ -1,3 +1,4 @@
 mod Shown
 mod Linking
 mod Forms
+mod Environments

@@ -89,7 +89,8 @@ module _ (u : Parts) (m : Reading) (at : Indices) (heap : Heap) (well : IsWell u
       by false is rest = rw is (rest ∙ ap (λ b. b || list_any (λ f. gives_object o (field u.classes heap f (Obj p))) fs) (sym (no_link f (slice_get u.fields f) refl is)))
 
 -- each of these relations is used by its kind
-link_spread : (p : Posed) (kinds : Kinds) (at : Indices) (f : ℕ) (d : Option FieldDef) → slice_get p.unit.fields f ≡ d → option_map_or (λ d. is_class_kind d.kind) d false ≡ true → is_spread p kinds AsSet (field_relation at f) ≡ true
+link_spread : (p : Posed) (kinds : Kinds) (at : Indices) (f : ℕ) (d : Option FieldDef) → slice_get p.unit.fields f ≡ d → option_map_or (λ d. is_class_kind d.kind) d false ≡ true
+    → is_spread p kinds AsSet (field_relation at f) ≡ true
 link_spread p kinds at f None there is = absurd (false≢true is)
 link_spread p kinds at f (Some d) there is = rw there (of_kind d.kind is)
   where
@@ -102,6 +103,8 @@ pub links_sorted : (p : Posed) (kinds : Kinds) (at : Indices) (fs : List ℕ) �
 links_sorted p kinds at [] = refl
 links_sorted p kinds at (f ∷ fs) = by (is_link p.unit.fields f) refl (links_sorted p kinds at fs)
   where
-    by : (b : Bool) → is_link p.unit.fields f ≡ b → list_all (is_spread p kinds AsSet) (links_of p.unit.fields at fs) ≡ true → list_all (is_spread p kinds AsSet) (links_of p.unit.fields at (f ∷ fs)) ≡ true
-    by true is rest = rw is (and_from (is_spread p kinds AsSet (field_relation at f)) (list_all (is_spread p kinds AsSet) (links_of p.unit.fields at fs)) (link_spread p kinds at f (slice_get p.unit.fields f) refl is) rest)
+    by : (b : Bool) → is_link p.unit.fields f ≡ b → list_all (is_spread p kinds AsSet) (links_of p.unit.fields at fs) ≡ true
+        → list_all (is_spread p kinds AsSet) (links_of p.unit.fields at (f ∷ fs)) ≡ true
+    by true is rest = rw is (and_from (is_spread p kinds AsSet (field_relation at f)) (list_all (is_spread p kinds AsSet) (links_of p.unit.fields at fs))
+        (link_spread p kinds at f (slice_get p.unit.fields f) refl is) rest)
     by false is rest = rw is rest

@@ -25,7 +25,8 @@ shows_past q env m s = record {
   below = s.below;
 }
 
-pub shows_bound : (q : Point) (env : Env) (m : Reading) (o : ℕ) (os : List ℕ) → os ≡ q.bound ++ o ∷ [] → IsTrue (nat_lt o q.problem.scope.objects) → Shows q env m → Shows (record q { bound = os }) (bind env o) m
+pub shows_bound : (q : Point) (env : Env) (m : Reading) (o : ℕ) (os : List ℕ) → os ≡ q.bound ++ o ∷ [] → IsTrue (nat_lt o q.problem.scope.objects) → Shows q env m
+    → Shows (record q { bound = os }) (bind env o) m
 shows_bound q env m o os is below s = record {
   classes = s.classes;
   objects = s.objects;

@@ -101,9 +101,17 @@ fn guard(alloc: Global, place: Place<'_>, class: u8, object: u8) -> Result<Boxed
 }
 
 /// `.has` of a `\reach` along these fields.
-fn member_of(alloc: Global, place: Place<'_>, root: Term, fields: &[u8], member: Term) -> Result<Term, NoMemory>
-    ensures told { IfOk result (λ t. (env : Env) (m : Reading) (x y : Seen) → Shows (point_of place.entry) env m → Tells x root m → Tells y member m → Tells (with_value x (λ v. with_value y (has env fields.now v))) t m) }
-    ensures sorted { IfOk result (λ t. (kinds : Kinds) → IsSortedTerm (point_of place.entry).problem kinds root → IsSortedTerm (point_of place.entry).problem kinds member → IsSortedTerm (point_of place.entry).problem kinds t) }
+fn member_of(
+    alloc: Global,
+    place: Place<'_>,
+    root: Term,
+    fields: &[u8],
+    member: Term,
+) -> Result<Term, NoMemory>
+    ensures told { IfOk result (λ t. (env : Env) (m : Reading) (x y : Seen) → Shows (point_of place.entry) env m → Tells x root m → Tells y member m
+        → Tells (with_value x (λ v. with_value y (has env fields.now v))) t m) }
+    ensures sorted { IfOk result (λ t. (kinds : Kinds) → IsSortedTerm (point_of place.entry).problem kinds root → IsSortedTerm (point_of place.entry).problem kinds member
+        → IsSortedTerm (point_of place.entry).problem kinds t) }
 {
     let problem = place.problem;
     well_posed(problem);
@@ -160,9 +168,17 @@ fn before_rest(alloc: Global, any: bool, first: Truth, rest: Truth) -> Result<Tr
 
 /// A part of a chain that is no chain itself, before the rest.
 #[cycle(walk)]
-fn last(alloc: Global, place: Place<'_>, any: bool, expr: &Expr, rest: Truth) -> Result<Truth, NoMemory>
-    ensures told { IfOk result (λ t. (env : Env) (m : Reading) (y : Seen) → Shows (point_of place.entry) env m → Judges y rest m → Judges (binary (chain_operator any) m.ints (eval expr.now env) y) t m) }
-    ensures sorted { IfOk result (λ t. (kinds : Kinds) → Sorts (point_of place.entry) kinds → IsSortedTruth (point_of place.entry).problem kinds rest → IsSortedTruth (point_of place.entry).problem kinds t) }
+fn last(
+    alloc: Global,
+    place: Place<'_>,
+    any: bool,
+    expr: &Expr,
+    rest: Truth,
+) -> Result<Truth, NoMemory>
+    ensures told { IfOk result (λ t. (env : Env) (m : Reading) (y : Seen) → Shows (point_of place.entry) env m → Judges y rest m
+        → Judges (binary (chain_operator any) m.ints (eval expr.now env) y) t m) }
+    ensures sorted { IfOk result (λ t. (kinds : Kinds) → Sorts (point_of place.entry) kinds → IsSortedTruth (point_of place.entry).problem kinds rest
+        → IsSortedTruth (point_of place.entry).problem kinds t) }
 {
     let term = walk(alloc, place, expr)?;
     let truth = Truth::of(alloc, term)?;
@@ -172,9 +188,17 @@ fn last(alloc: Global, place: Place<'_>, any: bool, expr: &Expr, rest: Truth) ->
 
 /// A chain, with what stands behind it in hand: from the right, so that each part is copied as if it stood alone.
 #[cycle(walk)]
-fn chained(alloc: Global, place: Place<'_>, any: bool, expr: &Expr, rest: Truth) -> Result<Truth, NoMemory>
-    ensures told { IfOk result (λ t. (env : Env) (m : Reading) (y : Seen) → Shows (point_of place.entry) env m → Judges y rest m → Judges (binary (chain_operator any) m.ints (eval expr.now env) y) t m) }
-    ensures sorted { IfOk result (λ t. (kinds : Kinds) → Sorts (point_of place.entry) kinds → IsSortedTruth (point_of place.entry).problem kinds rest → IsSortedTruth (point_of place.entry).problem kinds t) }
+fn chained(
+    alloc: Global,
+    place: Place<'_>,
+    any: bool,
+    expr: &Expr,
+    rest: Truth,
+) -> Result<Truth, NoMemory>
+    ensures told { IfOk result (λ t. (env : Env) (m : Reading) (y : Seen) → Shows (point_of place.entry) env m → Judges y rest m
+        → Judges (binary (chain_operator any) m.ints (eval expr.now env) y) t m) }
+    ensures sorted { IfOk result (λ t. (kinds : Kinds) → Sorts (point_of place.entry) kinds → IsSortedTruth (point_of place.entry).problem kinds rest
+        → IsSortedTruth (point_of place.entry).problem kinds t) }
 {
     match expr {
         Expr::Bin(op, a, b) => {
@@ -196,9 +220,16 @@ fn chained(alloc: Global, place: Place<'_>, any: bool, expr: &Expr, rest: Truth)
 
 /// An operator of a part and of what the part behind it gives. Chains of `&&` and of `||` go to the right.
 #[cycle(walk)]
-fn operated(alloc: Global, place: Place<'_>, op: Op, left: &Expr, second: Term) -> Result<Term, NoMemory>
+fn operated(
+    alloc: Global,
+    place: Place<'_>,
+    op: Op,
+    left: &Expr,
+    second: Term,
+) -> Result<Term, NoMemory>
     ensures told { IfOk result (λ t. (env : Env) (m : Reading) (y : Seen) → Shows (point_of place.entry) env m → Tells y second m → Tells (binary op m.ints (eval left.now env) y) t m) }
-    ensures sorted { IfOk result (λ t. (kinds : Kinds) → Sorts (point_of place.entry) kinds → IsSortedTerm (point_of place.entry).problem kinds second → IsSortedTerm (point_of place.entry).problem kinds t) }
+    ensures sorted { IfOk result (λ t. (kinds : Kinds) → Sorts (point_of place.entry) kinds → IsSortedTerm (point_of place.entry).problem kinds second
+        → IsSortedTerm (point_of place.entry).problem kinds t) }
 {
     match op {
         Op::And => {

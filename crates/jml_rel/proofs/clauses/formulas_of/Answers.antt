@@ -2,7 +2,7 @@ use Rattle.std.proofs.Common.{rules}
 use Rattle.jml_rel.proofs.clauses.formulas_of.Goals as goal
 
 pub returns-clause-sorted : goal.returns-clause-sorted
-returns-clause-sorted c p kinds term = 
+returns-clause-sorted c p kinds term =
     let truth = c.in_ok-truth.ensures.sorted p kinds term in
     record {
       truth = c.in_ok-truth-2.ensures.sorted p kinds truth.fine truth.value;

@@ -12,6 +12,7 @@ use Rattle.jml_rel.proofs.walk.+walk.Given as goal
 
 abbrev pub invariant-quantified-loop-object : goal.invariant-quantified-loop-object
 invariant-quantified-loop-object l = record {
-  told : (env : Env) (m : Reading) → Shows (point_of l.place) env m → Gathered m (out-Quant l.quant).all (is_of env.heap (out-Quant l.quant).class) (λ o. instance_at l.quant (bind env o)) l.object l.instances;
+  told : (env : Env) (m : Reading) → Shows (point_of l.place) env m
+      → Gathered m (out-Quant l.quant).all (is_of env.heap (out-Quant l.quant).class) (λ o. instance_at l.quant (bind env o)) l.object l.instances;
   sorted : (kinds : Kinds) → Sorts (point_of l.place) kinds → AreSorted (point_of l.place).problem kinds l.instances;
 }
