@@ -1,6 +1,6 @@
 -- What the formulas of clauses, of good heaps and of heaps inside the scopes mean. (This project's own.)
-use Rattle.std.specs.Prelude.{◌≡◌, ℕ, ◌<◌, ◌++◌, ◌∷◌, [], Bool, not, if◌then◌else◌, List, length, slice_get, Option, Some, None, IsTrue}
-use Rattle.std.specs.List.{list_any, list_all}
+use Rattle.std.specs.Prelude.{◌≡◌, ℕ, ◌<◌, [], not, if◌then◌else◌, length, Option, IsTrue}
+use Rattle.std.specs.List.{list_any}
 use Rattle.std.specs.Option.{option_map_or}
 use Rattle.taco_unit.specs.Well.{IsWell}
 use Rattle.heap_core.specs.declared.start.Start.{Start}

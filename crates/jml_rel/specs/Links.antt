@@ -1,6 +1,5 @@
 -- The relations of the fields along which a `\reach` goes. (This project's own.)
-use Rattle.std.specs.Prelude.{◌≡◌, ℕ, Bool, false, List, map, filter, slice_get, Option}
-use Rattle.std.specs.List.{list_any}
+use Rattle.std.specs.Prelude.{ℕ, Bool, false, List, map, filter, slice_get}
 use Rattle.std.specs.Option.{option_map_or}
 use Rattle.taco_unit.specs.declared.unit.FieldDef.{FieldDef}
 use Rattle.taco_unit.specs.Kinds.{is_class_kind}

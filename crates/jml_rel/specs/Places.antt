@@ -1,5 +1,5 @@
 -- Where a clause is translated, and which environments a reading shows there. (This project's own.)
-use Rattle.std.specs.Prelude.{◌≡◌, ℕ, ◌==◌, nat_lt, Bool, true, ◌&&◌, if◌then◌else◌, List, ◌++◌, ◌∷◌, [], length, map, slice_get, Option, Some, None, option_and_then, IsTrue}
+use Rattle.std.specs.Prelude.{◌≡◌, ℕ, ◌==◌, nat_lt, Bool, if◌then◌else◌, List, length, map, slice_get, Option, Some, None, option_and_then, IsTrue}
 use Rattle.std.specs.List.{list_any, list_all}
 use Rattle.taco_unit.specs.declared.kind.Kind.{Kind}
 use Rattle.heap_core.specs.declared.value.Value.{Value}

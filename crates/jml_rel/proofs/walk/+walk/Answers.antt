@@ -11,7 +11,7 @@ use Rattle.heap_core.specs.Heap.{field, is_of}
 use Rattle.heap_core.specs.Eval.{eval, binary, before, bind, over, has, size}
 use Rattle.heap_core.proofs.EvalForms.{eval_flag, eval_null, eval_this, eval_result, eval_local, eval_bound, eval_read, eval_neg, eval_not, eval_bin, eval_quant, eval_old, eval_has, eval_size, eval_new, eval_call}
 use Rattle.rel_core.proofs.Read.{heaps_are_read}
-use Rattle.clause_terms.specs.Terms.{Judges, Tells}
+use Rattle.clause_terms.specs.Terms.{Tells}
 use Rattle.clause_terms.proofs.Settled.{flags_settle}
 use Rattle.jml_rel.specs.Parts.{chain_operator, instance_at, quantified_at}
 use Rattle.jml_rel.specs.Places.{ShowsVariable, SortsVariable}

@@ -1,4 +1,3 @@
-use Rattle.std.proofs.Common.{◌≡◌}
 use Rattle.taco_unit.specs.declared.expr.Quant.{out-Quant}
 use Rattle.heap_core.specs.Heap.{is_of}
 use Rattle.heap_core.specs.Eval.{Env, bind}

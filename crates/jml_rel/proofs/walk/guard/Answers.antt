@@ -1,15 +1,7 @@
 use Rattle.std.proofs.Common.{rules}
-use Rattle.std.proofs.Common.{◌≡◌, true, false, refl, sym, ap, ◌∙◌, subst, Some, None}
-use Rattle.std.specs.Prelude.{slice_get}
-use Rattle.heap_core.specs.Eval.{binary}
-use Rattle.heap_core.specs.Heap.{field}
-use Rattle.heap_core.specs.Outcomes.{with_value}
+use Rattle.std.proofs.Common.{◌∙◌}
 use Rattle.rel_core.specs.Meaning.{holds, set_of}
-use Rattle.rel_core.proofs.Read.{heaps_are_read}
-use Rattle.clause_terms.specs.Terms.{Judges, Tells}
-use Rattle.clause_terms.proofs.Lacking.{other_fields_are_lacking}
-use Rattle.jml_rel.specs.Parts.{chain_operator}
-use Rattle.jml_rel.proofs.Forms.{field_spread, told_guard, bound_below, bound_is}
+use Rattle.jml_rel.proofs.Forms.{told_guard}
 use Rattle.jml_rel.proofs.walk.guard.Goals as goal
 
 pub returns-clause-meaning : goal.returns-clause-meaning

@@ -1,8 +1,4 @@
 use Rattle.std.proofs.Common.{rules}
-use Rattle.std.proofs.Common.{◌≡◌, refl, sym, ap, ◌∙◌, subst}
-use Rattle.std.specs.List.{list_all}
-use Rattle.rel_core.specs.Uses.{AsSet, is_spread}
-use Rattle.jml_rel.specs.Links.{links_of}
 use Rattle.jml_rel.specs.Points.{point_of}
 use Rattle.jml_rel.proofs.Forms.{lead_alike}
 use Rattle.jml_rel.proofs.Linking.{links_sorted}

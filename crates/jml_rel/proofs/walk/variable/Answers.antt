@@ -1,4 +1,3 @@
-use Rattle.std.proofs.Common.{rules}
 use Rattle.jml_rel.proofs.walk.variable.Goals as goal
 
 pub returns-in_ok-term-in-None-clause-sorted : goal.returns-in_ok-term-in-None-clause-sorted
