@@ -1,0 +1,11 @@
+pub mod Outcomes
+pub mod Flags
+pub mod Settled
+pub mod Quantified
+pub mod Only
+pub mod Fitting
+pub mod NumberTerms
+pub mod Mixed
+pub mod Reached
+pub mod FieldTerms
+pub mod Lacking

@@ -1,0 +1,12 @@
+use Rattle.std.proofs.Common.{false, not, refl, ap, ◌∙◌}
+use Rattle.std.specs.Prelude.{int_lt, int_le}
+use Rattle.taco_unit.specs.declared.expr.Op.TheVariants as o
+use Rattle.clause_terms.proofs.NumberTerms.{told_comparison, both_given, not_below}
+use Rattle.clause_terms.proofs.numbers.not_below.Goals as goal
+
+pub returns-clause-told : goal.returns-clause-told
+returns-clause-told c m v u a b = told_comparison m o.Ge (λ a b. int_le b a) c.args.x c.args.y c.in_ok-other.other _ v u (λ z w. refl)
+    (λ z w l r. c.in_ok-other.ensures.meaning m ∙ ap not (c.in_ok-less.ensures.meaning m ∙ both_given m c.args.x c.args.y z w int_lt false l r) ∙ not_below z w) (c.in_ok-term.ensures.told m) a b
+
+pub returns-clause-sorted : goal.returns-clause-sorted
+returns-clause-sorted c p kinds x y = c.in_ok-term.ensures.sorted p kinds (c.in_ok-other.ensures.sorted p kinds (c.in_ok-less.ensures.sorted p kinds x y))

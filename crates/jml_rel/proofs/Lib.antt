@@ -1,0 +1,4 @@
+mod Shown
+mod Linking
+mod Forms
+mod Environments

@@ -1,0 +1,5 @@
+pub mod Places
+pub mod Points
+pub mod Links
+pub mod Parts
+pub mod Clauses
