@@ -1,0 +1,2 @@
+pub mod PlanForms
+pub mod Bridge

@@ -1,0 +1,11 @@
+//! Java code as plans: steps whose choices are all decided by a flag, what they do, and the DynAlloy
+//! programs of which they have the runs.
+#![tactic(auto)]
+
+mod laws;
+mod plan;
+mod program;
+
+pub use laws::plans_run_as_programs;
+pub use plan::Plan;
+pub use program::program_of;
