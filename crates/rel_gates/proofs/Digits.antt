@@ -11,13 +11,10 @@ use Rattle.gate_arith.specs.Numbers.{bit, number, signed}
 use Rattle.gate_arith.proofs.Signed.{signed_push}
 use Rattle.heap_core.specs.Outcomes.{in_bits}
 use Rattle.gate_sets.proofs.Places.{numbers_last}
+use Rattle.rel_gates.specs.Constants.{digit}
+use Rattle.rel_gates.specs.Counted.{low_part}
 
--- the bit at a place of a number
-abbrev pub digit : ℕ → ℕ → Bool
-digit n zero = n % 2 == 1
-digit n (suc i) = digit (n / 2) i
-
-shifted : (f : ℕ → Bool) (a n : ℕ) → map f (range_with_len (a + 1) n) ≡ map (λ i. f (i + 1)) (range_with_len a n)
+pub shifted : (f : ℕ → Bool) (a n : ℕ) → map f (range_with_len (a + 1) n) ≡ map (λ i. f (i + 1)) (range_with_len a n)
 shifted f a zero = refl
 shifted f a (suc n) = ap (λ bs. f (a + 1) ∷ bs) (shifted f (a + 1) n)
 
@@ -40,11 +37,7 @@ number_of_digits (suc width) n less =
     let low : bit (n % 2 == 1) ≡ n % 2 = remainder (n % 2) (omega arith) in
     ap (λ bs. bit (n % 2 == 1) + 2 * number bs) rest ∙ ap (λ k. bit (n % 2 == 1) + 2 * k) (number_of_digits width (n / 2) half) ∙ omega (arith, low)
 
--- what the bits below the sign count, and the sign
-abbrev pub low_part : ℕ → ℤ → ℕ
-low_part top (pos n) = n
-low_part top (negsuc k) = 2 ^ top - 1 - k
-
+-- the sign
 abbrev pub is_negative : ℤ → Bool
 is_negative (pos n) = false
 is_negative (negsuc k) = true
@@ -58,11 +51,11 @@ within n w is top wide =
     let less : w - 1 ≡ top = omega (arith, wide) in
     subst (λ t. n < 2 ^ t) less (ltb-true n (2 ^ (w - 1)) is)
 
-low_below : (w top : ℕ) (z : ℤ) → in_bits w z ≡ true → w ≡ suc top → low_part top z < 2 ^ top
+pub low_below : (w top : ℕ) (z : ℤ) → in_bits w z ≡ true → w ≡ suc top → low_part top z < 2 ^ top
 low_below w top (pos n) is wide = within n w is top wide
 low_below w top (negsuc k) is wide = (let less = within k w is top wide in omega (arith, less))
 
-parts_of : (w top : ℕ) (z : ℤ) → in_bits w z ≡ true → w ≡ suc top → (pos (low_part top z) -ℤ pos (2 ^ top * bit (is_negative z))) ≡ z
+pub parts_of : (w top : ℕ) (z : ℤ) → in_bits w z ≡ true → w ≡ suc top → (pos (low_part top z) -ℤ pos (2 ^ top * bit (is_negative z))) ≡ z
 parts_of w top (pos n) is wide = omega (arith, ints)
 parts_of w top (negsuc k) is wide = (let less = within k w is top wide in omega (arith, ints, less))
 

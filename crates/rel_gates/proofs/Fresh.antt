@@ -41,7 +41,7 @@ value_unchanged old new inputs place b gate keeps of behind =
     ∙ value_decided old gate (changed inputs place b) inputs (λ q within stands. changed_else inputs place q b (omega (arith, of, within, behind)))
 
 -- an input that was new stays so
-own_kept : (old middle new : List Node) (gate : ℕ) → Keeps middle new → IsOwn old middle gate → IsOwn old new gate
+pub own_kept : (old middle new : List Node) (gate : ℕ) → Keeps middle new → IsOwn old middle gate → IsOwn old new gate
 own_kept old middle new gate keeps own = record {
   place = own.place;
   is = own.is;

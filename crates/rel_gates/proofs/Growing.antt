@@ -53,7 +53,7 @@ use Rattle.rel_gates.proofs.Wanted.{wanted, refs_agree, number_agrees, flag_agre
 
 -- ## relations that are one
 
-same_what-is : (a b : What) → same_what a b ≡ true → a ≡ b
+pub same_what-is : (a b : What) → same_what a b ≡ true → a ≡ b
 same_what-is what.Live what.Live is = refl
 same_what-is what.ClassOf what.ClassOf is = refl
 same_what-is (what.Field f) (what.Field g) is = ap what.Field (eqb-true f g is)

@@ -5,6 +5,9 @@ pub mod Growing
 pub mod UseForms
 pub mod Fitting
 pub mod NumberUses
+pub mod ClassBits
+pub mod FormulaUses
+pub mod FormulaFits
 pub mod OfSets
 pub mod OfGraphs
 pub mod Inclusions

@@ -30,7 +30,7 @@ not_any test a (suc n) each =
 
 -- ## what is filtered
 
-none_filtered : (set : ℕ → Bool) (a n : ℕ) → filter set (range_with_len a n) ≡ [] → (q : ℕ) → a ≤ q → q < a + n → set q ≡ false
+pub none_filtered : (set : ℕ → Bool) (a n : ℕ) → filter set (range_with_len a n) ≡ [] → (q : ℕ) → a ≤ q → q < a + n → set q ≡ false
 none_filtered set a zero is q from to = absurd (omega (arith, from, to))
 none_filtered set a (suc n) is q from to =
     elim (cases_Bool (set a)) [
@@ -44,7 +44,7 @@ none_filtered set a (suc n) is q from to =
       ]
     ]
 
-first_filtered : (set : ℕ → Bool) (a n q : ℕ) (qs : List ℕ) → filter set (range_with_len a n) ≡ q ∷ qs → (a ≤ q) × (q < a + n) × (set q ≡ true)
+pub first_filtered : (set : ℕ → Bool) (a n q : ℕ) (qs : List ℕ) → filter set (range_with_len a n) ≡ q ∷ qs → (a ≤ q) × (q < a + n) × (set q ≡ true)
 first_filtered set a zero q qs is = absurd (cc)
 first_filtered set a (suc n) q qs is =
     elim (cases_Bool (set a)) [

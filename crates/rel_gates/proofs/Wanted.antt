@@ -55,8 +55,10 @@ use Rattle.rel_core.specs.declared.relation.What.{What}
 use Rattle.rel_core.specs.Reading.{Reading, is_reference}
 use Rattle.rel_core.specs.Shown.{natural}
 use Rattle.rel_core.specs.Uses.{Kinds, Use, AsSet, AsNumber, AsFlag, AsClass, same_use, use_of, has_use, is_slot, has_place, can_have, is_class_number, IsOf}
+use Rattle.rel_gates.specs.Meant.{reference_at}
 use Rattle.rel_gates.specs.Shown.{class_bits, width_of, rows_of, gate_count, place_of, in_row, row_bits, refs_shown, number_shown, flag_shown}
-use Rattle.rel_gates.proofs.Digits.{digit, signed_digit, map_alike, number_of_digits, signed_of_digits}
+use Rattle.rel_gates.specs.Constants.{digit}
+use Rattle.rel_gates.proofs.Digits.{signed_digit, map_alike, number_of_digits, signed_of_digits}
 
 -- ## uses
 
@@ -105,10 +107,6 @@ pub index_below : (p : Posed) (kinds : Kinds) (u : Use) (r : RelVar) (o i : ℕ)
 index_below p kinds u r o i is less = grind (arith, mul-add-lt o (width_of p u) i (rows_of p r.what) (place_below p kinds u r o is) less)
 
 -- ## references and their places
-
-abbrev pub reference_at : ℕ → Value
-reference_at zero = Null
-reference_at (suc o) = Obj o
 
 pub place_within : (objects : ℕ) (v : Value) → is_reference objects v ≡ true → place_of v < objects + 1
 place_within objects Null is = omega arith

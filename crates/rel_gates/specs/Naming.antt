@@ -15,7 +15,7 @@ use Rattle.rel_core.specs.declared.numbers.NumExpr.TheOpen.{NumExpr-F}
 use Rattle.rel_core.specs.declared.formula.Formula.{Formula, fold-Formula}
 use Rattle.rel_core.specs.declared.formula.Formula.TheOpen.{Formula-F}
 use Rattle.rel_core.specs.Reading.{Reading}
-use Rattle.rel_core.specs.Uses.{IsOf as IsOfProblem, Kinds, Use, AsSet, AsNumber, AsFlag, AsClass, use_of, has_use, has_place, is_sorted_set, is_sorted_number}
+use Rattle.rel_core.specs.Uses.{IsOf as IsOfProblem, Kinds, Use, AsSet, AsNumber, AsFlag, AsClass, use_of, has_use, has_place, is_sorted_set, is_sorted_number, is_sorted}
 use Rattle.rel_gates.specs.Shown.{Named, gates_of, is_named, width_of, gate_count, class_bits, row_bits, Agrees, HoldsOnly}
 
 -- ## the relations that a formula uses, each with the number of gates that its use wants
@@ -155,6 +155,10 @@ pub data Names (old new : List Node) (es fs : Named) (r : RelVar) (count : ℕ) 
   Stays : IsTrue (is_named es r) → new ≡ old → fs ≡ es → Names old new es fs r count
   Grows : (gates : List ℕ) → gates_of es r ≡ None → fs ≡ es ++ (r, gates) ∷ [] → AreInputs old new count (λ j. true) gates → Names old new es fs r count
 
+-- no relation is named twice
+abbrev pub IsOnce : Named → Type 0
+IsOnce es = (i : ℕ) (e : RelVar × List ℕ) → slice_get es i ≡ Some e → gates_of es e.0 ≡ Some e.1
+
 -- ## the naming of all relations
 
 -- each named relation has as many gates as its use wants
@@ -172,6 +176,7 @@ pub record IsNaming (p : Posed) (kinds : Kinds) (upper : List ℕ) (old new : Li
 -- numbers have a sign and more, and class numbers have four bits at most
 pub record IsSmall (p : Posed) : Type 0 where
   pub ints : 2 ≤ p.scope.ints
+  pub some_class : 1 ≤ length p.unit.classes
   pub classes : length p.unit.classes ≤ 16
 
 -- the first uses of a list are named, and what was named still is
@@ -189,6 +194,14 @@ SetFits p e = (kinds : Kinds) → IsTrue (is_sorted_set p kinds e) → FitUses p
 -- the uses of a number are by the kinds by which it is sorted
 abbrev pub NumberFits : Posed → NumExpr → Type 0
 NumberFits p e = (kinds : Kinds) → IsTrue (is_sorted_number p kinds e) → FitUses p kinds (number_uses p e)
+
+-- the uses of a formula are by the kinds by which it is sorted
+abbrev pub FormulaFits : Posed → Formula → Type 0
+FormulaFits p f = (kinds : Kinds) → IsTrue (is_sorted p kinds f) → FitUses p kinds (uses p f)
+
+-- those of all parts of a formula
+abbrev pub PartsFit : Posed → List Formula → Type 0
+PartsFit p fs = (kinds : Kinds) → IsTrue (list_all (is_sorted p kinds) fs) → FitUses p kinds (flat_map (uses p) fs)
 
 -- no class number that is shown is too large
 abbrev pub ClassesFit : Posed → Kinds → (ℕ → Bool) → Named → Type 0

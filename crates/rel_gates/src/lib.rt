@@ -8,3 +8,4 @@ mod named;
 mod naming;
 mod truths;
 mod uses;
+mod widths;

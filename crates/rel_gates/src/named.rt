@@ -1,6 +1,7 @@
-ghost use Rattle.std.specs.Prelude.{◌≡◌, ◌&&◌, ◌∷◌, ◌++◌, [], map, option_map, OnOk, OnErr};
+ghost use Rattle.std.specs.Prelude.{◌≡◌, ◌&&◌, ◌∷◌, ◌++◌, ◌<◌, [], None, Some, length, map, slice_get, option_map, OnOk, OnErr};
 ghost use Rattle.rel_core.specs.Reading.{same_what as same_what_lem, same_relation as same_relation_lem};
 ghost use Rattle.rel_gates.specs.Shown.{gates_of};
+ghost use Rattle.rel_gates.specs.Naming.{IsOnce};
 
 use gate_core::Gate;
 use no_memory::NoMemory;
@@ -27,7 +28,11 @@ impl Model for Relations {
 
     ghost Value = { List (RelVar × List ℕ) };
 
+    ghost use Rattle.rel_gates.specs.Naming.{IsOnce};
+
     ghost view = { λ n. map (λ e. (e.relation, e.gates.items)) n.entries.items };
+
+    ghost invariant = { λ n. IsOnce (map (λ e. (e.relation, e.gates.items)) n.entries.items) };
 }
 
 fn same_what(a: What, b: What) -> bool
@@ -76,8 +81,26 @@ impl Relations {
         find_in(self.entries.as_slice(), relation)
     }
 
-    /// One relation more.
+    /// How many relations are named.
+    pub(crate) fn len(&self) -> usize
+        ensures count { result ≡ length self.now }
+        ensures once { IsOnce self.now }
+    {
+        self.entries.len()
+    }
+
+    /// The relation at a place, and its gates.
+    pub(crate) fn at(&self, place: usize) -> (RelVar, &[Gate])
+        requires { place < length self.now }
+        ensures { slice_get self.now place ≡ Some (result.0, result.1.now) }
+    {
+        let entry = &self.entries[place];
+        (entry.relation, entry.gates.as_slice())
+    }
+
+    /// One relation more, which is not named.
     pub(crate) fn push(&mut self, relation: RelVar, gates: Vec<Gate>) -> Result<(), NoMemory>
+        requires new { gates_of self.old relation ≡ None }
         ensures added { OnOk result (self.new ≡ self.old ++ (relation, gates.items) ∷ []) }
         ensures refused { OnErr result (self.new ≡ self.old) }
     {

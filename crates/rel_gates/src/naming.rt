@@ -29,7 +29,7 @@ pub(crate) fn name(
 }
 
 /// The use at a place.
-fn use_at(uses: &[(RelVar, usize)], place: usize) -> (RelVar, usize)
+pub(crate) fn use_at(uses: &[(RelVar, usize)], place: usize) -> (RelVar, usize)
     requires { place < length uses.now }
     ensures { slice_get uses.now place ≡ Some result }
 {
