@@ -24,7 +24,7 @@ use Rattle.dyn_steps.specs.Joining.{Joins, Equates, AreJoined}
 use Rattle.dyn_steps.proofs.Moving.{alike_self}
 use Rattle.dyn_rel.specs.Joining.{merged, all_merged, joint_point, IsOver, SaysSame}
 
-less_or_not : (a b : ℕ) → (a < b) ⊎ (b ≤ a)
+pub less_or_not : (a b : ℕ) → (a < b) ⊎ (b ≤ a)
 less_or_not a b = at (nat_lt a b) refl
   where
     at : (t : Bool) → nat_lt a b ≡ t → (a < b) ⊎ (b ≤ a)

@@ -1,3 +1,5 @@
 pub mod Same
 pub mod Joints
 pub mod Walking
+pub mod Lists
+pub mod Whole

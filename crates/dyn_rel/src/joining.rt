@@ -18,7 +18,7 @@ use std::alloc::Global;
 use taco_unit::Kind;
 
 /// The index at a place, and 0 where there is none.
-fn index_at(indices: &[u32], place: usize) -> u32
+pub(crate) fn index_at(indices: &[u32], place: usize) -> u32
     ensures { result ≡ get_or indices.now place 0 }
 {
     indices.get(place).copied().unwrap_or(0)
@@ -94,7 +94,7 @@ fn field_number(place: usize) -> Result<u8, NoMemory>
 }
 
 /// The number of a variable, where it is one.
-fn variable_number(place: usize) -> Result<u16, NoMemory>
+pub(crate) fn variable_number(place: usize) -> Result<u16, NoMemory>
     ensures { IfOk result (λ variable. variable ≡ place) }
 {
     if place < 65536 {

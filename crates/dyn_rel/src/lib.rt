@@ -2,6 +2,7 @@
 #![tactic(auto)]
 
 mod joining;
+mod paths;
 mod walk;
 
-pub use walk::path;
+pub use paths::{Path, path_formula};

@@ -22,7 +22,7 @@ fn sequence(alloc: Global, basis: Basis<'_>, from: Front, parts: &[Prog]) -> Res
     let mut all = Items::from_vec(Vec::with_capacity(alloc, parts.len())?);
     let mut front = from;
     for part in parts {
-        let made = path(alloc, basis, front, part)?;
+        let made = part_of(alloc, basis, front, part)?;
         let Part { formula, end } = made;
         all.push(formula.into_inner())?;
         front = end;
@@ -51,7 +51,7 @@ fn choice(alloc: Global, basis: Basis<'_>, from: Front, branches: &[Prog]) -> Re
             at,
             next: all.end.next,
         };
-        let made = path(alloc, basis, begun, branch)?;
+        let made = part_of(alloc, basis, begun, branch)?;
         all = join(alloc, basis.kinds, all, made)?;
     }
     Ok(all)
@@ -59,7 +59,12 @@ fn choice(alloc: Global, basis: Basis<'_>, from: Front, branches: &[Prog]) -> Re
 
 /// The part of a program. An iteration takes no turn, and a program that has none loses nothing by it.
 #[cycle(walking)]
-pub fn path(alloc: Global, basis: Basis<'_>, from: Front, prog: &Prog) -> Result<Part, NoMemory>
+pub(crate) fn part_of(
+    alloc: Global,
+    basis: Basis<'_>,
+    from: Front,
+    prog: &Prog,
+) -> Result<Part, NoMemory>
     ensures { IfOk result (IsProgPath basis.entry.problem.now basis.entry.kinds.now prog.now from) }
 {
     match prog {

@@ -5,15 +5,15 @@ use Rattle.dyn_steps.specs.Looked.{all_vars}
 use Rattle.dyn_rel.proofs.Walking.{seq_step, seq_ended, choice_begun, choice_step, choice_ended, prog_of_act, prog_of_test, prog_of_star}
 use Rattle.dyn_rel.proofs.walk.+walking.Goals as goal
 
-pub path-returns-in_ok-part-in-Act : goal.path-returns-in_ok-part-in-Act
-path-returns-in_ok-part-in-Act t c = prog_of_act c.args.basis.problem.now c.args.basis.kinds.now c.args.prog.now _ c.args.from _ c.in-Act.is c.in_ok-part-in-Act.ensures
+pub part_of-returns-in_ok-part-in-Act : goal.part_of-returns-in_ok-part-in-Act
+part_of-returns-in_ok-part-in-Act t c = prog_of_act c.args.basis.problem.now c.args.basis.kinds.now c.args.prog.now _ c.args.from _ c.in-Act.is c.in_ok-part-in-Act.ensures
 
-pub path-returns-in_ok-part-in-Test : goal.path-returns-in_ok-part-in-Test
-path-returns-in_ok-part-in-Test t c =
+pub part_of-returns-in_ok-part-in-Test : goal.part_of-returns-in_ok-part-in-Test
+part_of-returns-in_ok-part-in-Test t c =
     prog_of_test c.args.basis.problem.now c.args.basis.kinds.now c.args.prog.now _ _ c.args.from _ c.in-Test.is (c.in_ok-part-in-Test.ensures c.args.basis.problem.now c.args.basis.kinds.now)
 
-pub path-returns-in_ok-formula-in-Star : goal.path-returns-in_ok-formula-in-Star
-path-returns-in_ok-formula-in-Star t c =
+pub part_of-returns-in_ok-formula-in-Star : goal.part_of-returns-in_ok-formula-in-Star
+part_of-returns-in_ok-formula-in-Star t c =
     prog_of_star c.args.basis.problem.now c.args.basis.kinds.now c.args.prog.now _ c.args.from _ c.in-Star.is c.in_ok-formula-in-Star.ensures.meaning
     (c.in_ok-formula-in-Star.ensures.sorted c.args.basis.problem.now (slice_get c.args.basis.kinds.now))
 
