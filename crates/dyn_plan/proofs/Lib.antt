@@ -1,2 +1,5 @@
 pub mod PlanForms
 pub mod Bridge
+pub mod LowForms
+pub mod Known
+mod Rows
