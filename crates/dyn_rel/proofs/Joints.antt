@@ -1,5 +1,6 @@
 -- The point behind two branches, and what is said of it.
-use Rattle.std.proofs.Common.{◌≡◌, ◌⊎◌, ℕ, zero, suc, ◌+◌, ◌<◌, ◌≤◌, Bool, true, false, ◌&&◌, ◌||◌, List, [], ◌∷◌, ◌++◌, length, map, Option, Some, None, inl, inr, refl, sym, ◌∙◌, ap, subst, arith, get_or}
+use Rattle.std.proofs.Common.{◌≡◌, ◌⊎◌, ℕ, zero, suc, ◌+◌, ◌<◌, ◌≤◌, Bool, true, false, ◌&&◌, ◌||◌, List, []}
+use Rattle.std.proofs.Common.{◌∷◌, ◌++◌, length, map, Option, Some, None, inl, inr, refl, sym, ◌∙◌, ap, subst, arith, get_or}
 use Rattle.std.specs.Prelude.{◌==◌, nat_lt, if◌then◌else◌, slice_get, is_some, option_map}
 use Rattle.std.specs.List.{range_with_len}
 use Rattle.std.proofs.lemmas.Bool.{cases_eq, eq-eqb, ne_eqb, and_parts, and_from, ltb-true, false≢true}
@@ -20,9 +21,9 @@ use Rattle.dyn_steps.specs.Points.{index_of, relation_at, IsPoint}
 use Rattle.dyn_steps.specs.Agreeing.{IsAlike}
 use Rattle.dyn_steps.specs.Looked.{Vars}
 use Rattle.dyn_steps.specs.Paths.{IsSameness}
-use Rattle.dyn_steps.specs.Joining.{Joins, Equates, AreJoined}
+use Rattle.dyn_steps.specs.Joining.{joined, Joins, Equates, AreJoined}
 use Rattle.dyn_steps.proofs.Moving.{alike_self}
-use Rattle.dyn_rel.specs.Joining.{merged, all_merged, joint_point, IsOver, SaysSame}
+use Rattle.dyn_rel.specs.Joining.{all_joined, joint_point, IsOver, SaysSame}
 
 pub less_or_not : (a b : ℕ) → (a < b) ⊎ (b ≤ a)
 less_or_not a b = at (nat_lt a b) refl
@@ -33,88 +34,70 @@ less_or_not a b = at (nat_lt a b) refl
 
 -- ## indices
 
-merged_first : (n i j : ℕ) → (merged n i j ≡ i) ⊎ (merged n i j ≡ n)
-merged_first n i j = elim (cases_eq i j) [
-  | inl same ↦ inl (ap (λ b. if b then i else n) (eq-eqb i j same))
-  | inr other ↦ inr (ap (λ b. if b then i else n) (ne_eqb i j other))
+joined_below : (n old i j : ℕ) → i < n → j < n → joined old i j < n
+joined_below n old i j one two = at (j == old)
+  where
+    at : (b : Bool) → (if b then i else j) < n
+    at true = one
+    at false = two
+
+pub joined_length : (olds is js : List ℕ) → length (all_joined olds is js) ≡ length is
+joined_length olds is js = length-map-range_with_len (λ x. joined (get_or olds x 0) (get_or is x 0) (get_or js x 0)) 0 (length is)
+
+-- an index of a list, also where it has none
+joined_at : (olds is js : List ℕ) → length olds ≡ length is → length js ≡ length is → (x : ℕ)
+    → get_or (all_joined olds is js) x 0 ≡ joined (get_or olds x 0) (get_or is x 0) (get_or js x 0)
+joined_at olds is js few many x = elim (less_or_not x (length is)) [
+  | inl low ↦ get_or-map-range_with_len (λ x. joined (get_or olds x 0) (get_or is x 0) (get_or js x 0)) 0 (length is) x x 0 low (omega arith)
+  | inr high ↦
+      get_or_past (all_joined olds is js) x 0 (let same = joined_length olds is js in omega (arith, high, same))
+      ∙ sym (ap (λ z. joined z (get_or is x 0) (get_or js x 0)) (get_or_past olds x 0 (omega (arith, high, few)))
+      ∙ ap (λ z. joined 0 z (get_or js x 0)) (get_or_past is x 0 high)
+      ∙ ap (λ z. joined 0 0 z) (get_or_past js x 0 (omega (arith, high, many))))
 ]
 
-merged_second : (n i j : ℕ) → (merged n i j ≡ j) ⊎ (merged n i j ≡ n)
-merged_second n i j = elim (cases_eq i j) [
-  | inl same ↦ inl (ap (λ b. if b then i else n) (eq-eqb i j same) ∙ same)
-  | inr other ↦ inr (ap (λ b. if b then i else n) (ne_eqb i j other))
-]
+module _ (p : Posed) (kinds : List Kind) (n : ℕ) (at a b : Point) (begun : IsPoint p kinds n at) (first : IsPoint p kinds n a) (second : IsPoint p kinds n b) where
+  pub joint_joins : Joins at a b (joint_point at a b)
+  joint_joins what.Live = refl
+  joint_joins what.ClassOf = refl
+  joint_joins (what.Field f) = joined_at at.fields a.fields b.fields (begun.fields ∙ sym first.fields) (second.fields ∙ sym first.fields) f
+  joint_joins (what.Slot x) = joined_at at.vars a.vars b.vars (begun.vars ∙ sym first.vars) (second.vars ∙ sym first.vars) x
 
-pub merged_length : (n : ℕ) (is js : List ℕ) → length (all_merged n is js) ≡ length is
-merged_length n is js = length-map-range_with_len (λ x. merged n (get_or is x 0) (get_or js x 0)) 0 (length is)
-
-merged_at : (n : ℕ) (is js : List ℕ) (x : ℕ) → x < length is → get_or (all_merged n is js) x 0 ≡ merged n (get_or is x 0) (get_or js x 0)
-merged_at n is js x low = get_or-map-range_with_len (λ x. merged n (get_or is x 0) (get_or js x 0)) 0 (length is) x x 0 low (omega arith)
-
-merged_past : (n : ℕ) (is js : List ℕ) (x : ℕ) → length is ≤ x → get_or (all_merged n is js) x 0 ≡ 0
-merged_past n is js x high = get_or_past (all_merged n is js) x 0 (let same = merged_length n is js in omega (arith, high, same))
-
-list_first : (n : ℕ) (is js : List ℕ) (x : ℕ) → (get_or (all_merged n is js) x 0 ≡ get_or is x 0) ⊎ (get_or (all_merged n is js) x 0 ≡ n)
-list_first n is js x = elim (less_or_not x (length is)) [
-  | inl low ↦ elim (merged_first n (get_or is x 0) (get_or js x 0)) [
-    | inl one ↦ inl (merged_at n is js x low ∙ one)
-    | inr new ↦ inr (merged_at n is js x low ∙ new)
-  ]
-  | inr high ↦ inl (merged_past n is js x high ∙ sym (get_or_past is x 0 high))
-]
-
-list_second : (n : ℕ) (is js : List ℕ) → length is ≡ length js → (x : ℕ) → (get_or (all_merged n is js) x 0 ≡ get_or js x 0) ⊎ (get_or (all_merged n is js) x 0 ≡ n)
-list_second n is js same x = elim (less_or_not x (length is)) [
-  | inl low ↦ elim (merged_second n (get_or is x 0) (get_or js x 0)) [
-    | inl one ↦ inl (merged_at n is js x low ∙ one)
-    | inr new ↦ inr (merged_at n is js x low ∙ new)
-  ]
-  | inr high ↦ inl (merged_past n is js x high ∙ sym (get_or_past js x 0 (omega (arith, high, same))))
-]
-
-pub joins_first : (n : ℕ) (a b : Point) → Joins n a (joint_point n a b)
-joins_first n a b what.Live = merged_first n a.live b.live
-joins_first n a b what.ClassOf = merged_first n a.live b.live
-joins_first n a b (what.Field f) = list_first n a.fields b.fields f
-joins_first n a b (what.Slot x) = list_first n a.vars b.vars x
-
-pub joins_second : (n : ℕ) (a b : Point) → length a.fields ≡ length b.fields → length a.vars ≡ length b.vars → Joins n b (joint_point n a b)
-joins_second n a b fields vars what.Live = merged_second n a.live b.live
-joins_second n a b fields vars what.ClassOf = merged_second n a.live b.live
-joins_second n a b fields vars (what.Field f) = list_second n a.fields b.fields fields f
-joins_second n a b fields vars (what.Slot x) = list_second n a.vars b.vars vars x
-
-pub joint_is_point : (p : Posed) (kinds : List Kind) (n : ℕ) (a b : Point) → IsPoint p kinds n a → IsPoint p kinds (n + 1) (joint_point n a b)
-joint_is_point p kinds n a b point = record {
-  fields = merged_length n a.fields b.fields ∙ point.fields;
-  vars = merged_length n a.vars b.vars ∙ point.vars;
-  below = λ w. elim (joins_first n a b w) [
-    | inl old ↦ subst (λ i. i < n + 1) (sym old) (let low = point.below w in omega (arith, low))
-    | inr new ↦ subst (λ i. i < n + 1) (sym new) (omega arith)
-  ];
-}
+  pub joint_is_point : IsPoint p kinds n (joint_point at a b)
+  joint_is_point = record {
+    fields = joined_length at.fields a.fields b.fields ∙ first.fields;
+    vars = joined_length at.vars a.vars b.vars ∙ first.vars;
+    below = λ w. subst (λ i. i < n) (sym (joint_joins w)) (joined_below n (index_of at w) (index_of a w) (index_of b w) (first.below w) (second.below w));
+  }
 
 -- one more index
 pub indices_more :
-    (n : ℕ) (is js all ys : List ℕ) (i first second x : ℕ)
+    (olds is js all ys : List ℕ) (i old first second x : ℕ)
     → ys ≡ all ++ i ∷ []
-    → i ≡ merged n first second
+    → i ≡ joined old first second
+    → old ≡ get_or olds x 0
     → first ≡ get_or is x 0
     → second ≡ get_or js x 0
-    → all ≡ map (λ z. merged n (get_or is z 0) (get_or js z 0)) (numbers_below x)
-    → ys ≡ map (λ z. merged n (get_or is z 0) (get_or js z 0)) (numbers_below (x + 1))
-indices_more n is js all ys i first second x is_ys is_i is_first is_second before =
+    → all ≡ map (λ z. joined (get_or olds z 0) (get_or is z 0) (get_or js z 0)) (numbers_below x)
+    → ys ≡ map (λ z. joined (get_or olds z 0) (get_or is z 0) (get_or js z 0)) (numbers_below (x + 1))
+indices_more olds is js all ys i old first second x is_ys is_i is_old is_first is_second before =
     is_ys ∙ ap (λ zs. zs ++ i ∷ []) before
-    ∙ ap (λ z. map (λ z. merged n (get_or is z 0) (get_or js z 0)) (numbers_below x) ++ z ∷ []) (is_i ∙ ap (λ z. merged n z second) is_first ∙ ap (λ z. merged n (get_or is x 0) z) is_second)
-    ∙ sym (map-range_with_len_more (λ z. merged n (get_or is z 0) (get_or js z 0)) 0 x x (omega arith))
+    ∙ ap (λ z. map (λ z. joined (get_or olds z 0) (get_or is z 0) (get_or js z 0)) (numbers_below x) ++ z ∷ [])
+    (is_i ∙ ap (λ z. joined z first second) is_old ∙ ap (λ z. joined (get_or olds x 0) z second) is_first ∙ ap (λ z. joined (get_or olds x 0) (get_or is x 0) z) is_second)
+    ∙ sym (map-range_with_len_more (λ z. joined (get_or olds z 0) (get_or is z 0) (get_or js z 0)) 0 x x (omega arith))
 
 -- ## equalities
 
 -- a relation is the same at one index
-pub same_index : (p : Posed) (kinds : List Kind) (w : What) (new old : ℕ) (f : Formula) → new ≡ old → ((m : Reading) → holds f m ≡ true) → is_sorted p (slice_get kinds) f ≡ true → IsSameness p kinds w new old f
+pub same_index : (p : Posed) (kinds : List Kind) (w : What) (new old : ℕ) (f : Formula) → new ≡ old → ((m : Reading) → holds f m ≡ true) → is_sorted p (slice_get kinds) f ≡ true
+    → IsSameness p kinds w new old f
 same_index p kinds w new old f same always sorted = record {
   sorted = sorted;
-  meaning = λ m of. (λ is. subst (λ i. IsAlike m (record { what = w; index = old }) m (record { what = w; index = i })) (sym same) (alike_self m (record { what = w; index = old })), λ alike. always m);
+  meaning = λ m of. (
+    λ is. subst (λ i. IsAlike m (record { what = w; index = old }) m (record { what = w; index = i })) (sym same) (alike_self m
+        (record { what = w; index = old })),
+    λ alike. always m,
+  );
 }
 
 there_within : {A : Type 0} (xs : List A) (i : ℕ) → i < length xs → is_some (slice_get xs i) ≡ true
@@ -188,7 +171,8 @@ pub point_said :
     → IsSameness p kinds what.Live joint.live at.live live
     → IsSameness p kinds what.ClassOf joint.live at.live class
     → ((m : Reading) → holds f m ≡ (holds fields m && holds slots m && (holds live m && holds class m)))
-    → (is_sorted p (slice_get kinds) fields ≡ true → is_sorted p (slice_get kinds) slots ≡ true → is_sorted p (slice_get kinds) live ≡ true → is_sorted p (slice_get kinds) class ≡ true → is_sorted p (slice_get kinds) f ≡ true)
+    → (is_sorted p (slice_get kinds) fields ≡ true → is_sorted p (slice_get kinds) slots ≡ true → is_sorted p (slice_get kinds) live ≡ true → is_sorted p (slice_get kinds)
+    class ≡ true → is_sorted p (slice_get kinds) f ≡ true)
     → Equates p kinds vars at joint f
 point_said p kinds vars at joint over f fields slots live class to_fields from_fields to_slots from_slots tf ff ts fs of_fields of_slots of_live of_class meaning sorted =
     point_equates p kinds vars at joint f fields slots live class over.joint_fields over.joint_vars said also of_live of_class meaning (sorted said.sorted also.sorted of_live.sorted of_class.sorted)
@@ -204,9 +188,8 @@ point_said p kinds vars at joint over f fields slots live class to_fields from_f
 -- ## two branches
 
 pub are_joined :
-    (p : Posed) (kinds : List Kind) (vars : Vars) (a b : Part) (at : Point) (next : ℕ) (f left right same also : Formula)
-    → at ≡ joint_point b.end.next a.end.at b.end.at
-    → next ≡ b.end.next + 1
+    (p : Posed) (kinds : List Kind) (vars : Vars) (begun : Point) (a b : Part) (at : Point) (f left right same also : Formula)
+    → at ≡ joint_point begun a.end.at b.end.at
     → (IsOver p kinds a.end.at at → Equates p kinds vars a.end.at at same)
     → (IsOver p kinds b.end.at at → Equates p kinds vars b.end.at at also)
     → ((m : Reading) → holds left m ≡ (holds a.formula m && holds same m))
@@ -215,16 +198,16 @@ pub are_joined :
     → (is_sorted p (slice_get kinds) a.formula ≡ true → is_sorted p (slice_get kinds) same ≡ true → is_sorted p (slice_get kinds) left ≡ true)
     → (is_sorted p (slice_get kinds) b.formula ≡ true → is_sorted p (slice_get kinds) also ≡ true → is_sorted p (slice_get kinds) right ≡ true)
     → (is_sorted p (slice_get kinds) left ≡ true → is_sorted p (slice_get kinds) right ≡ true → is_sorted p (slice_get kinds) f ≡ true)
+    → IsPoint p kinds b.end.next begun
     → IsPoint p kinds b.end.next a.end.at
     → IsPoint p kinds b.end.next b.end.at
-    → AreJoined p kinds vars a b (record { formula = f; end = record { at = at; next = next } })
-are_joined p kinds vars a b at next f left right same also at_is next_is equate equate_also of_left of_right of_all sorted_left sorted_right sorted_all first second = record {
+    → AreJoined p kinds vars begun a b (record { formula = f; end = record { at = at; next = b.end.next } })
+are_joined p kinds vars begun a b at f left right same also at_is equate equate_also of_left of_right of_all sorted_left sorted_right sorted_all start first second = record {
   first_equal = same;
   second_equal = also;
-  next = next_is;
-  point = λ one two. subst (λ z. IsPoint p kinds (b.end.next + 1) z) (sym at_is) (joint_is_point p kinds b.end.next a.end.at b.end.at one);
-  first_joins = subst (λ z. Joins b.end.next a.end.at z) (sym at_is) (joins_first b.end.next a.end.at b.end.at);
-  second_joins = subst (λ z. Joins b.end.next b.end.at z) (sym at_is) (joins_second b.end.next a.end.at b.end.at fields slots);
+  next = refl;
+  point = subst (λ z. IsPoint p kinds b.end.next z) (sym at_is) (joint_is_point p kinds b.end.next begun a.end.at b.end.at start first second);
+  joins = subst (λ z. Joins begun a.end.at b.end.at z) (sym at_is) (joint_joins p kinds b.end.next begun a.end.at b.end.at start first second);
   first_equates = equate over_first;
   second_equates = equate_also over_second;
   meaning = λ m. of_all m ∙ ap (λ z. z || holds right m) (of_left m) ∙ ap (λ z. (holds a.formula m && holds same m) || z) (of_right m);
@@ -238,10 +221,10 @@ are_joined p kinds vars a b at next f left right same also at_is next_is equate 
     slots = first.vars ∙ sym second.vars
 
     joint_fields : length at.fields ≡ length a.end.at.fields
-    joint_fields = ap (λ (z : Point). length z.fields) at_is ∙ merged_length b.end.next a.end.at.fields b.end.at.fields
+    joint_fields = ap (λ (z : Point). length z.fields) at_is ∙ joined_length begun.fields a.end.at.fields b.end.at.fields
 
     joint_vars : length at.vars ≡ length a.end.at.vars
-    joint_vars = ap (λ (z : Point). length z.vars) at_is ∙ merged_length b.end.next a.end.at.vars b.end.at.vars
+    joint_vars = ap (λ (z : Point). length z.vars) at_is ∙ joined_length begun.vars a.end.at.vars b.end.at.vars
 
     over_first : IsOver p kinds a.end.at at
     over_first = record { fields = first.fields; vars = first.vars; joint_fields = joint_fields; joint_vars = joint_vars }

@@ -3,3 +3,5 @@ pub mod Joints
 pub mod Walking
 pub mod Lists
 pub mod Whole
+pub mod Rest
+pub mod FirstStates

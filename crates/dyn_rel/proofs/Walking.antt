@@ -143,44 +143,50 @@ Branches p xs s t = AnyOf (λ x. Runs p x s t) xs
 
 pub choice_more :
     (p : Posed) (kinds : List Kind) (from : Front) (xs : List Prog) (x : Prog) (a b joint : Part)
+    → IsPoint p kinds from.next from.at
     → IsPath p kinds all_vars all_vars (Branches p xs) from a
     → IsPath p kinds all_vars all_vars (Runs p x) (record { at = from.at; next = a.end.next }) b
-    → AreJoined p kinds all_vars a b joint
+    → AreJoined p kinds all_vars from.at a b joint
     → IsPath p kinds all_vars all_vars (Branches p (xs ++ x ∷ [])) from joint
-choice_more p kinds from xs x a b joint first second are =
+choice_more p kinds from xs x a b joint point first second are =
     path_alike p kinds all_vars all_vars (Either (Branches p xs) (Runs p x)) (Branches p (xs ++ x ∷ [])) from joint
     (λ s t run. any_joined (λ y. Runs p y s t) xs x run)
     (λ s t run. any_split (λ y. Runs p y s t) xs x run)
-    (joined_path p kinds all_vars all_vars (Branches p xs) (Runs p x) from a b joint first second are)
+    (joined_path p kinds all_vars all_vars (Branches p xs) (Runs p x) from a b joint point first second are)
 
 -- ## the forms of programs
 
-pub seq_runs : (p : Posed) (kinds : List Kind) (parts : List Prog) (from : Front) (part : Part) → IsPath p kinds all_vars all_vars (Chain (Runs p) parts) from part → IsPath p kinds all_vars all_vars (Runs p (q.Seq parts)) from part
+pub seq_runs : (p : Posed) (kinds : List Kind) (parts : List Prog) (from : Front) (part : Part) → IsPath p kinds all_vars all_vars (Chain (Runs p) parts) from part
+    → IsPath p kinds all_vars all_vars (Runs p (q.Seq parts)) from part
 seq_runs p kinds parts from part path =
     path_alike p kinds all_vars all_vars (Chain (Runs p) parts) (Runs p (q.Seq parts)) from part
     (λ s t run. ((cases_up_to p 0).seq parts s t).1 run) (λ s t run. ((cases_up_to p 0).seq parts s t).0 run) path
 
-pub choice_runs : (p : Posed) (kinds : List Kind) (parts : List Prog) (from : Front) (part : Part) → IsPath p kinds all_vars all_vars (Branches p parts) from part → IsPath p kinds all_vars all_vars (Runs p (q.Choice parts)) from part
+pub choice_runs : (p : Posed) (kinds : List Kind) (parts : List Prog) (from : Front) (part : Part) → IsPath p kinds all_vars all_vars (Branches p parts) from part
+    → IsPath p kinds all_vars all_vars (Runs p (q.Choice parts)) from part
 choice_runs p kinds parts from part path =
     path_alike p kinds all_vars all_vars (Branches p parts) (Runs p (q.Choice parts)) from part
     (λ s t run. ((cases_up_to p 0).choice parts s t).1 (any_to (λ x. Runs p x s t) parts run))
     (λ s t run. let a = ((cases_up_to p 0).choice parts s t).0 run in any_from (λ x. Runs p x s t) parts a.0 a.1 a.2 a.3 a.4)
     path
 
-pub act_runs : (p : Posed) (kinds : List Kind) (a : Act) (from : Front) (part : Part) → IsPath p kinds (looked_at a all_vars) all_vars (Acts p a) from part → IsPath p kinds all_vars all_vars (Runs p (q.Act a)) from part
+pub act_runs : (p : Posed) (kinds : List Kind) (a : Act) (from : Front) (part : Part) → IsPath p kinds (looked_at a all_vars) all_vars (Acts p a) from part
+    → IsPath p kinds all_vars all_vars (Runs p (q.Act a)) from part
 act_runs p kinds a from part path =
     path_widened p kinds (looked_at a all_vars) all_vars all_vars all_vars (Runs p (q.Act a)) from part (λ x inside. refl) (λ x inside. refl)
     (path_alike p kinds (looked_at a all_vars) all_vars (Acts p a) (Runs p (q.Act a)) from part
     (λ s t run. ((cases_up_to p 0).act a s t).1 run) (λ s t run. ((cases_up_to p 0).act a s t).0 run) path)
 
-pub test_runs : (p : Posed) (kinds : List Kind) (x : ℕ) (b : Bool) (from : Front) (part : Part) → IsPath p kinds (with_one x all_vars) all_vars (Passes x b) from part → IsPath p kinds all_vars all_vars (Runs p (q.Test x b)) from part
+pub test_runs : (p : Posed) (kinds : List Kind) (x : ℕ) (b : Bool) (from : Front) (part : Part) → IsPath p kinds (with_one x all_vars) all_vars (Passes x b) from part
+    → IsPath p kinds all_vars all_vars (Runs p (q.Test x b)) from part
 test_runs p kinds x b from part path =
     path_widened p kinds (with_one x all_vars) all_vars all_vars all_vars (Runs p (q.Test x b)) from part (λ y inside. refl) (λ y inside. refl)
     (path_alike p kinds (with_one x all_vars) all_vars (Passes x b) (Runs p (q.Test x b)) from part
     (λ s t run. ((cases_up_to p 0).test x b s t).1 run) (λ s t run. ((cases_up_to p 0).test x b s t).0 run) path)
 
 -- an iteration takes no turn
-pub star_runs : (p : Posed) (kinds : List Kind) (body : Prog) (from : Front) (part : Part) → IsPath p kinds all_vars all_vars (λ s t. s ≡ t) from part → IsPath p kinds all_vars all_vars (Runs p (q.Star body)) from part
+pub star_runs : (p : Posed) (kinds : List Kind) (body : Prog) (from : Front) (part : Part) → IsPath p kinds all_vars all_vars (λ s t. s ≡ t) from part
+    → IsPath p kinds all_vars all_vars (Runs p (q.Star body)) from part
 star_runs p kinds body from part path =
     path_alike p kinds all_vars all_vars (λ s t. s ≡ t) (Runs p (q.Star body)) from part
     (λ s t same. ((cases_up_to p 0).star body s t).1 (0, omega arith, same))
@@ -210,7 +216,8 @@ pub seq_begun :
     → IsPoint p kinds from.next from.at
     → IsPath p kinds all_vars all_vars (λ s t. s ≡ t) from (record { formula = form.And all; end = from })
 seq_begun p kinds from all is point =
-    stay_path p kinds all_vars from (form.And all) (λ m. holds_and all m ∙ ap (list_all (λ b. holds b m)) is) (sorted_and p (slice_get kinds) all ∙ ap (list_all (is_sorted p (slice_get kinds))) is) point
+    stay_path p kinds all_vars from (form.And all) (λ m. holds_and all m ∙ ap (list_all (λ b. holds b m)) is) (sorted_and p (slice_get kinds) all ∙ ap (list_all (is_sorted p
+    (slice_get kinds))) is) point
 
 pub seq_step :
     (p : Posed) (kinds : List Kind) (from end : Front) (parts : List Prog) (i : ℕ) (x : Prog) (all ys : List Formula) (a : Formula) (made : Part)
@@ -237,11 +244,13 @@ pub choice_step :
     → begun ≡ record { at = from.at; next = a.end.next }
     → IsPath p kinds all_vars all_vars (Branches p (take i parts)) from a
     → IsProgPath p kinds x begun b
-    → (IsPoint p kinds b.end.next a.end.at → IsPoint p kinds b.end.next b.end.at → AreJoined p kinds all_vars a b joint)
+    → (IsPoint p kinds b.end.next from.at → IsPoint p kinds b.end.next a.end.at → IsPoint p kinds b.end.next b.end.at → AreJoined p kinds all_vars from.at a b joint)
     → IsPath p kinds all_vars all_vars (Branches p (take (i + 1) parts)) from joint
 choice_step p kinds from begun parts i x a b joint kinded point low is begun_is first second are =
     subst (λ xs. IsPath p kinds all_vars all_vars (Branches p xs) from joint) (sym (one_more parts i x low is))
-    (choice_more p kinds from (take i parts) x a b joint first branch (are (point_more p kinds a.end.next b.end.next a.end.at branch.up first.point) branch.point))
+    (choice_more p kinds from (take i parts) x a b joint point first branch
+    (are (point_more p kinds from.next b.end.next from.at (let one = first.up in let two = branch.up in omega (arith, one, two)) point)
+    (point_more p kinds a.end.next b.end.next a.end.at branch.up first.point) branch.point))
   where
     each : list_all (is_kinded p kinds) parts ≡ true
     each = sym (kinded_choice p kinds parts) ∙ kinded
@@ -289,10 +298,12 @@ choice_ended p kinds from parts i part high path =
 
 -- the forms without parts, as the walk needs them
 pub prog_of_act : (p : Posed) (kinds : List Kind) (prog : Prog) (a : Act) (from : Front) (part : Part) → prog ≡ q.Act a → IsStep p kinds a from part → IsProgPath p kinds prog from part
-prog_of_act p kinds prog a from part is step = subst (λ z. IsProgPath p kinds z from part) (sym is) (λ kinded point. act_runs p kinds a from part (step (sym (kinded_act p kinds a) ∙ kinded) point all_vars))
+prog_of_act p kinds prog a from part is step = subst (λ z. IsProgPath p kinds z from part) (sym is) (λ kinded point. act_runs p kinds a from part (step (sym (kinded_act p kinds a)
+    ∙ kinded) point all_vars))
 
 pub prog_of_test : (p : Posed) (kinds : List Kind) (prog : Prog) (x : ℕ) (b : Bool) (from : Front) (part : Part) → prog ≡ q.Test x b → IsTest p kinds x b from part → IsProgPath p kinds prog from part
-prog_of_test p kinds prog x b from part is tested = subst (λ z. IsProgPath p kinds z from part) (sym is) (λ kinded point. test_runs p kinds x b from part (tested (sym (kinded_test p kinds x b) ∙ kinded) point all_vars))
+prog_of_test p kinds prog x b from part is tested = subst (λ z. IsProgPath p kinds z from part) (sym is) (λ kinded point. test_runs p kinds x b from part (tested (sym
+    (kinded_test p kinds x b) ∙ kinded) point all_vars))
 
 pub prog_of_star :
     (p : Posed) (kinds : List Kind) (prog body : Prog) (from : Front) (f : Formula) → prog ≡ q.Star body → ((m : Reading) → holds f m ≡ true) → is_sorted p (slice_get kinds) f ≡ true

@@ -1,6 +1,5 @@
 -- Two branches of a program and what joins them. (This project's own.)
-use Rattle.std.specs.Prelude.{◌≡◌, ◌⊎◌, ◌↔◌, ℕ, ◌+◌, ◌<◌, ◌==◌, true, ◌&&◌, ◌||◌, if◌then◌else◌, List, length, map, get_or, slice_get, IsTrue}
-use Rattle.std.specs.List.{list_all}
+use Rattle.std.specs.Prelude.{◌≡◌, ◌↔◌, ℕ, ◌<◌, List, length, map, get_or, slice_get, IsTrue}
 use Rattle.taco_unit.specs.declared.kind.Kind.{Kind}
 use Rattle.heap_core.specs.Posed.{Posed}
 use Rattle.rel_core.specs.declared.formula.Formula.{Formula}
@@ -10,16 +9,18 @@ use Rattle.rel_core.specs.Meaning.{holds}
 use Rattle.rel_core.specs.Uses.{IsOf, is_sorted}
 use Rattle.dyn_steps.specs.declared.point.Point.{Point}
 use Rattle.dyn_steps.specs.Agreeing.{IsAlike}
+use Rattle.dyn_steps.specs.Joining.{joined}
 
--- the index where both have one, and else a new one
-abbrev pub merged : ℕ → ℕ → ℕ → ℕ
-merged n i j = if i == j then i else n
+-- the indices behind two branches, by those with which both began
+abbrev pub all_joined : List ℕ → List ℕ → List ℕ → List ℕ
+all_joined olds is js = map (λ x. joined (get_or olds x 0) (get_or is x 0) (get_or js x 0)) (numbers_below (length is))
 
-abbrev pub all_merged : ℕ → List ℕ → List ℕ → List ℕ
-all_merged n is js = map (λ x. merged n (get_or is x 0) (get_or js x 0)) (numbers_below (length is))
-
-abbrev pub joint_point : ℕ → Point → Point → Point
-joint_point n a b = record { fields = all_merged n a.fields b.fields; live = merged n a.live b.live; vars = all_merged n a.vars b.vars }
+abbrev pub joint_point : Point → Point → Point → Point
+joint_point at a b = record {
+  fields = all_joined at.fields a.fields b.fields;
+  live = joined at.live a.live b.live;
+  vars = all_joined at.vars a.vars b.vars;
+}
 
 -- of each of these relations, below a number, the formula says that it is the same at two indices
 pub record SaysSame (p : Posed) (kinds : List Kind) (w : ℕ → What) (to from : List ℕ) (n : ℕ) (f : Formula) : Type 0 where

@@ -1,3 +1,4 @@
 pub mod Joining
 pub mod Runs
 pub mod Formulas
+pub mod Starts

@@ -1,14 +1,14 @@
 //! Two branches of a program, and what joins them.
 
-ghost use Rattle.std.specs.Prelude.{◌≡◌, ◌+◌, ◌<◌, List, length, get_or, slice_get, IfOk, IsTrue, is_some};
+ghost use Rattle.std.specs.Prelude.{◌≡◌, List, length, get_or, slice_get, IfOk, IsTrue, is_some};
 ghost use Rattle.heap_core.specs.Posed.{Posed};
 ghost use Rattle.rel_core.specs.declared.relation.What.TheVariants as what;
 ghost use Rattle.rel_core.specs.Uses.{use_of};
 ghost use Rattle.dyn_steps.specs.Paths.{IsSameness};
 ghost use Rattle.dyn_steps.specs.Points.{IsPoint};
 ghost use Rattle.dyn_steps.specs.Looked.{Vars};
-ghost use Rattle.dyn_steps.specs.Joining.{AreJoined, Equates};
-ghost use Rattle.dyn_rel.specs.Joining.{merged, all_merged, joint_point, IsOver, SaysSame};
+ghost use Rattle.dyn_steps.specs.Joining.{joined, AreJoined, Equates};
+ghost use Rattle.dyn_rel.specs.Joining.{all_joined, joint_point, IsOver, SaysSame};
 
 use dyn_steps::{Front, Part, Point, same_relation};
 use no_memory::NoMemory;
@@ -24,41 +24,50 @@ pub(crate) fn index_at(indices: &[u32], place: usize) -> u32
     indices.get(place).copied().unwrap_or(0)
 }
 
-/// The index where both have one, and else a new one.
-fn joined_index(left: u32, right: u32, new: u32) -> u32
-    ensures { result ≡ merged new left right }
+/// The index behind two branches, by the one with which both began: the second's where that branch gave another one,
+/// else the first's.
+fn joined_index(old: u32, first: u32, second: u32) -> u32
+    ensures { result ≡ joined old first second }
 {
-    if left == right { left } else { new }
+    if second == old { first } else { second }
 }
 
-/// The same for two lists of indices.
+/// The same for lists of indices.
 fn joined_indices(
     alloc: Global,
-    left: &[u32],
-    right: &[u32],
-    new: u32,
+    olds: &[u32],
+    firsts: &[u32],
+    seconds: &[u32],
 ) -> Result<Items<u32>, NoMemory>
-    ensures { IfOk result (λ all. all ≡ all_merged new left.now right.now) }
+    ensures { IfOk result (λ all. all ≡ all_joined olds.now firsts.now seconds.now) }
 {
-    let mut all = Items::from_vec(Vec::with_capacity(alloc, left.len())?);
-    for place in 0..left.len() {
-        let first = index_at(left, place);
-        let second = index_at(right, place);
-        let index = joined_index(first, second, new);
+    let mut all = Items::from_vec(Vec::with_capacity(alloc, firsts.len())?);
+    for place in 0..firsts.len() {
+        let old = index_at(olds, place);
+        let first = index_at(firsts, place);
+        let second = index_at(seconds, place);
+        let index = joined_index(old, first, second);
         all.push(index)?;
     }
     Ok(all)
 }
 
 /// The indices behind two branches.
-fn joined_point(alloc: Global, left: &Point, right: &Point, new: u32) -> Result<Point, NoMemory>
-    ensures { IfOk result (λ at. at ≡ joint_point new left.now right.now) }
+fn joined_point(alloc: Global, at: &Point, first: &Point, second: &Point) -> Result<Point, NoMemory>
+    ensures { IfOk result (λ joint. joint ≡ joint_point at.now first.now second.now) }
 {
-    let fields = joined_indices(alloc, left.fields.as_slice(), right.fields.as_slice(), new)?;
-    let vars = joined_indices(alloc, left.vars.as_slice(), right.vars.as_slice(), new)?;
+    let olds = at.fields.as_slice();
+    let fields = joined_indices(
+        alloc,
+        olds,
+        first.fields.as_slice(),
+        second.fields.as_slice(),
+    )?;
+    let olds = at.vars.as_slice();
+    let vars = joined_indices(alloc, olds, first.vars.as_slice(), second.vars.as_slice())?;
     Ok(Point {
         fields,
-        live: joined_index(left.live, right.live, new),
+        live: joined_index(at.live, first.live, second.live),
         vars,
     })
 }
@@ -165,36 +174,30 @@ fn point_equated(
     Ok(all)
 }
 
-/// The index behind one, where there is one.
-fn next_index(index: u32) -> Result<u32, NoMemory>
-    ensures { IfOk result (λ next. next ≡ index + 1) }
-{
-    match index.checked_add(1) {
-        Some(next) => Ok(next),
-        None => Err(NoMemory),
-    }
-}
-
-/// The part of two branches, of which the second was begun from the first one's next index. Linear in the fields
-/// and variables.
+/// The part of two branches that begin at the same indices, the second with the first one's next index. No relation has a
+/// new index. Linear in the fields and variables.
 pub(crate) fn join(
     alloc: Global,
     kinds: &[Kind],
+    at: &Point,
     first: Part,
     second: Part,
 ) -> Result<Part, NoMemory>
-    ensures { IfOk result (λ r. (p : Posed) (vars : Vars) → IsPoint p kinds.now second.end.next first.end.at → IsPoint p kinds.now second.end.next second.end.at → AreJoined p kinds.now vars first second r) }
+    ensures { IfOk result (λ r. (p : Posed) (vars : Vars) → IsPoint p kinds.now second.end.next at.now
+        → IsPoint p kinds.now second.end.next first.end.at → IsPoint p kinds.now second.end.next second.end.at
+        → AreJoined p kinds.now vars at.now first second r) }
 {
-    let new = second.end.next;
-    let next = next_index(new)?;
-    let at = joined_point(alloc, &first.end.at, &second.end.at, new)?;
-    let same = point_equated(alloc, kinds, &first.end.at, &at)?;
+    let joint = joined_point(alloc, at, &first.end.at, &second.end.at)?;
+    let same = point_equated(alloc, kinds, &first.end.at, &joint)?;
     let left = Formula::both(alloc, first.formula, same)?;
-    let also = point_equated(alloc, kinds, &second.end.at, &at)?;
+    let also = point_equated(alloc, kinds, &second.end.at, &joint)?;
     let right = Formula::both(alloc, second.formula, also)?;
     let formula = Formula::either(alloc, left, right)?;
     Ok(Part {
         formula,
-        end: Front { at, next },
+        end: Front {
+            at: joint,
+            next: second.end.next,
+        },
     })
 }

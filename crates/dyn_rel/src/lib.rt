@@ -3,6 +3,8 @@
 
 mod joining;
 mod paths;
+mod starts;
 mod walk;
 
 pub use paths::{Path, path_formula};
+pub use starts::{rest_is_zero, starts_are_states};

@@ -52,7 +52,7 @@ fn choice(alloc: Global, basis: Basis<'_>, from: Front, branches: &[Prog]) -> Re
             next: all.end.next,
         };
         let made = part_of(alloc, basis, begun, branch)?;
-        all = join(alloc, basis.kinds, all, made)?;
+        all = join(alloc, basis.kinds, &from.at, all, made)?;
     }
     Ok(all)
 }

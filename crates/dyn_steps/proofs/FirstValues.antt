@@ -53,7 +53,7 @@ class_is m o c r low = both_ways_of (are_of m (is_object o) c r) (int_eq (m.numb
     both_ways_of false false on back = refl
 
 -- 0 lies in every width
-zero_in : (w : ℕ) → in_bits w (pos 0) ≡ true
+pub zero_in : (w : ℕ) → in_bits w (pos 0) ≡ true
 zero_in w = zero_below (2 ^ (w - 1)) (pow_pos (w - 1))
   where
     zero_below : (m : ℕ) → 0 < m → nat_lt 0 m ≡ true

@@ -18,3 +18,4 @@ pub mod MadeHeap
 pub mod MadeSaid
 pub mod Made
 pub mod Growing
+pub mod Zeros

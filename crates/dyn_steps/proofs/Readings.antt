@@ -1,8 +1,8 @@
 -- Readings that go on from others.
-use Rattle.std.proofs.Common.{◌≡◌, ◌⊎◌, ℕ, Bool, true, false, not, ◌&&◌, ◌||◌, inl, inr, refl, sym, ap, subst, arith}
+use Rattle.std.proofs.Common.{◌≡◌, ◌⊎◌, ℕ, ◌≤◌, Bool, true, false, not, ◌&&◌, ◌||◌, inl, inr, refl, sym, ap, subst, arith}
 use Rattle.std.specs.Prelude.{◌==◌, nat_lt, ℤ, pos, if◌then◌else◌}
 use Rattle.std.specs.Ordering.{int_eq}
-use Rattle.std.proofs.lemmas.Bool.{eq-eqb, ne_eqb, eqb-true, and_parts, and_from, or_left, or_right}
+use Rattle.std.proofs.lemmas.Bool.{eq-eqb, ne_eqb, eqb-true, lt-ltb, le-ltb, and_parts, and_from, or_left, or_right}
 use Rattle.heap_core.specs.Posed.{Posed}
 use Rattle.heap_core.specs.Outcomes.{in_bits}
 use Rattle.rel_core.specs.declared.relation.RelVar.{RelVar}
@@ -93,6 +93,35 @@ renewed_old n c m r below = record {
 -- a relation of what was moved
 pub moved_alike : (at : What → ℕ) (m : Reading) (r : RelVar) → IsAlike m (record { what = r.what; index = at r.what }) (moved at m) r
 moved_alike at m r = record { refs = λ o v. refl; number = λ o. refl; flag = λ o. refl }
+
+-- ## what a reading has from an index on
+
+-- from index n on what the reading has at other indices
+abbrev pub held : ℕ → (What → ℕ) → Reading → Reading
+held n at m = spliced (λ r o. nat_lt r.index n) m (moved at m)
+
+pub held_of : (p : Posed) (kinds : Kinds) (n : ℕ) (at : What → ℕ) (m : Reading) → IsOf p kinds m → IsOf p kinds (held n at m)
+held_of p kinds n at m is = spliced_of p kinds (λ r o. nat_lt r.index n) m (moved at m) is (moved_of p kinds at m is)
+
+pub held_old : (n : ℕ) (at : What → ℕ) (m : Reading) → Agree n m (held n at m)
+held_old n at m r below = record {
+  refs = λ o v. ap (λ b. if b then m.refs r o v else (moved at m).refs r o v) low;
+  number = λ o. ap (λ b. if b then m.number r o else (moved at m).number r o) low;
+  flag = λ o. ap (λ b. if b then m.flag r o else (moved at m).flag r o) low;
+}
+  where
+    low : nat_lt r.index n ≡ true
+    low = lt-ltb r.index n below
+
+pub held_new : (n : ℕ) (at : What → ℕ) (m : Reading) (r : RelVar) → n ≤ r.index → IsAlike m (record { what = r.what; index = at r.what }) (held n at m) r
+held_new n at m r above = record {
+  refs = λ o v. ap (λ b. if b then m.refs r o v else (moved at m).refs r o v) high;
+  number = λ o. ap (λ b. if b then m.number r o else (moved at m).number r o) high;
+  flag = λ o. ap (λ b. if b then m.flag r o else (moved at m).flag r o) high;
+}
+  where
+    high : nat_lt r.index n ≡ false
+    high = le-ltb r.index n above
 
 -- ## the place of an object, at place 0
 

@@ -1,6 +1,6 @@
--- Two branches of a program, and what joins them: a new index for each relation that they left at different ones.
+-- Two branches of a program, and what joins them: each relation has an index of one of them, and no new one.
 -- (This project's own.)
-use Rattle.std.specs.Prelude.{◌≡◌, ◌⊎◌, ℕ, ◌+◌, true, ◌&&◌, ◌||◌, List, slice_get}
+use Rattle.std.specs.Prelude.{◌≡◌, ◌⊎◌, ℕ, ◌==◌, true, ◌&&◌, ◌||◌, if◌then◌else◌, List, slice_get}
 use Rattle.taco_unit.specs.declared.kind.Kind.{Kind}
 use Rattle.heap_core.specs.Posed.{Posed}
 use Rattle.rel_core.specs.declared.formula.Formula.{Formula}
@@ -15,9 +15,14 @@ use Rattle.dyn_steps.specs.Agreeing.{IsAlike}
 use Rattle.dyn_steps.specs.Looked.{Vars, IsLooked}
 use Rattle.dyn_steps.specs.Paths.{Relation}
 
--- each index is the one of a branch, or the new one
-abbrev pub Joins : ℕ → Point → Point → Type 0
-Joins n at joint = (w : What) → (index_of joint w ≡ index_of at w) ⊎ (index_of joint w ≡ n)
+-- the index behind two branches, by the one with which both began: the second's where that branch gave another one,
+-- else the first's
+abbrev pub joined : ℕ → ℕ → ℕ → ℕ
+joined old first second = if second == old then first else second
+
+-- so is each index
+abbrev pub Joins : Point → Point → Point → Point → Type 0
+Joins at a b joint = (w : What) → index_of joint w ≡ joined (index_of at w) (index_of a w) (index_of b w)
 
 -- a formula that says of each relation that is looked at that it is the same at both points
 pub record Equates (p : Posed) (kinds : List Kind) (vars : Vars) (at joint : Point) (f : Formula) : Type 0 where
@@ -29,14 +34,13 @@ pub record Equates (p : Posed) (kinds : List Kind) (vars : Vars) (at joint : Poi
 abbrev pub Either : Relation → Relation → Relation
 Either R S s t = R s t ⊎ S s t
 
--- two branches and what joins them: the second is begun from the first one's next index
-pub record AreJoined (p : Posed) (kinds : List Kind) (after : Vars) (a b joint : Part) : Type 0 where
+-- two branches and what joins them: both begin at the same indices, the second with the first one's next index
+pub record AreJoined (p : Posed) (kinds : List Kind) (after : Vars) (at : Point) (a b joint : Part) : Type 0 where
   pub first_equal : Formula
   pub second_equal : Formula
-  pub next : joint.end.next ≡ b.end.next + 1
-  pub point : IsPoint p kinds b.end.next a.end.at → IsPoint p kinds b.end.next b.end.at → IsPoint p kinds (b.end.next + 1) joint.end.at
-  pub first_joins : Joins b.end.next a.end.at joint.end.at
-  pub second_joins : Joins b.end.next b.end.at joint.end.at
+  pub next : joint.end.next ≡ b.end.next
+  pub point : IsPoint p kinds b.end.next joint.end.at
+  pub joins : Joins at a.end.at b.end.at joint.end.at
   pub first_equates : Equates p kinds after a.end.at joint.end.at first_equal
   pub second_equates : Equates p kinds after b.end.at joint.end.at second_equal
   pub meaning : (m : Reading) → holds joint.formula m ≡ ((holds a.formula m && holds first_equal m) || (holds b.formula m && holds second_equal m))

@@ -5,13 +5,14 @@ use Rattle.std.specs.Prelude.{◌≡◌, ◌⊎◌, ◌↔◌, ℕ, ◌+◌, ◌
 use Rattle.taco_unit.specs.declared.kind.Kind.{Kind}
 use Rattle.taco_unit.specs.declared.kind.Kind.TheVariants as kind
 use Rattle.heap_core.specs.declared.value.Value.TheVariants.{Flag}
+use Rattle.heap_core.specs.Outcomes.{zero_of}
 use Rattle.heap_core.specs.Posed.{Posed}
 use Rattle.rel_core.specs.declared.formula.Formula.{Formula}
 use Rattle.rel_core.specs.declared.relation.What.{What}
 use Rattle.rel_core.specs.Reading.{Reading}
 use Rattle.rel_core.specs.Meaning.{holds}
 use Rattle.rel_core.specs.Uses.{IsOf, is_sorted}
-use Rattle.rel_core.specs.Shown.{State, ShowsState}
+use Rattle.rel_core.specs.Shown.{State, ShowsValue, ShowsState}
 use Rattle.dyn_core.specs.declared.prog.Act.{Act}
 use Rattle.dyn_core.specs.declared.state.DynState.{DynState}
 use Rattle.dyn_core.specs.States.{var_at}
@@ -20,7 +21,7 @@ use Rattle.dyn_core.specs.Kinds.{is_var, is_kinded_act, HasKinds}
 use Rattle.dyn_steps.specs.declared.point.Point.{Point}
 use Rattle.dyn_steps.specs.declared.part.Front.{Front}
 use Rattle.dyn_steps.specs.declared.part.Part.{Part}
-use Rattle.dyn_steps.specs.Points.{index_of, indices_of, var_moved, field_moved, made_point, IsPoint}
+use Rattle.dyn_steps.specs.Points.{index_of, indices_of, slot, var_moved, field_moved, made_point, IsPoint}
 use Rattle.dyn_steps.specs.Agreeing.{IsAlike, Agree}
 use Rattle.dyn_steps.specs.Looked.{Vars, with_one, kinds_in, looked_at}
 
@@ -109,6 +110,11 @@ pub record IsSameness (p : Posed) (kinds : List Kind) (w : What) (new old : ℕ)
       (m : Reading)
       → IsOf p (slice_get kinds) m
       → IsTrue (holds f m) ↔ IsAlike m (record { what = w; index = old }) m (record { what = w; index = new })
+
+-- the formula says that a variable of this kind is 0, false or null at an index
+pub record HasZero (p : Posed) (kinds : List Kind) (k : Kind) (x i : ℕ) (f : Formula) : Type 0 where
+  pub sorted : IsTrue (is_sorted p (slice_get kinds) f)
+  pub meaning : (m : Reading) → IsOf p (slice_get kinds) m → IsTrue (holds f m) ↔ ShowsValue m k (slot x i) 0 (zero_of k)
 
 -- the part of a new object: its relations have the next index, and the values with which they begin the one behind it
 abbrev pub made_set : Front → ℕ → List ℕ → Formula → Part

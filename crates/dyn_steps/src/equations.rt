@@ -63,7 +63,9 @@ pub(crate) fn same_variable(
     right: RelVar,
 ) -> Result<Boxed<Formula>, NoMemory>
     ensures meaning { IfOk result (λ r. (m : Reading) → holds r m ≡ same_variables m kind left right) }
-    ensures sorted { IfOk result (λ r. (p : Posed) (kinds : Kinds) → IsTrue (is_variable p kinds (use_of_kind kind) left) → IsTrue (is_variable p kinds (use_of_kind kind) right) → IsTrue (is_sorted p kinds r)) }
+    ensures sorted { IfOk result (λ r. (p : Posed) (kinds : Kinds)
+        → IsTrue (is_variable p kinds (use_of_kind kind) left) → IsTrue (is_variable p kinds (use_of_kind kind) right)
+        → IsTrue (is_sorted p kinds r)) }
 {
     match kind {
         Kind::Int => {
@@ -132,7 +134,8 @@ pub(crate) fn is_this_constant(
     value: Value,
 ) -> Result<Boxed<Formula>, NoMemory>
     ensures meaning { IfOk result (λ r. (m : Reading) → holds r m ≡ is_constant m variable value) }
-    ensures sorted { IfOk result (λ r. (p : Posed) (kinds : Kinds) (k : TheKind) → IsTrue (takes_constant value k) → IsTrue (is_variable p kinds (use_of_kind k) variable) → IsTrue (is_sorted p kinds r)) }
+    ensures sorted { IfOk result (λ r. (p : Posed) (kinds : Kinds) (k : TheKind) → IsTrue (takes_constant value k)
+        → IsTrue (is_variable p kinds (use_of_kind k) variable) → IsTrue (is_sorted p kinds r)) }
 {
     match value {
         Value::Null => {
@@ -163,7 +166,9 @@ pub(crate) fn is_sum(
     right: RelVar,
 ) -> Result<Boxed<Formula>, NoMemory>
     ensures meaning { IfOk result (λ r. (m : Reading) → holds r m ≡ is_number m variable (fitting m.ints (m.number left 0 +ℤ m.number right 0))) }
-    ensures sorted { IfOk result (λ r. (p : Posed) (kinds : Kinds) → IsTrue (is_variable p kinds AsNumber variable) → IsTrue (is_variable p kinds AsNumber left) → IsTrue (is_variable p kinds AsNumber right) → IsTrue (is_sorted p kinds r)) }
+    ensures sorted { IfOk result (λ r. (p : Posed) (kinds : Kinds) → IsTrue (is_variable p kinds AsNumber variable)
+        → IsTrue (is_variable p kinds AsNumber left) → IsTrue (is_variable p kinds AsNumber right)
+        → IsTrue (is_sorted p kinds r)) }
 {
     let left = NumExpr::variable(alloc, left)?;
     let right = NumExpr::variable(alloc, right)?;
@@ -180,7 +185,9 @@ pub(crate) fn is_difference(
     right: RelVar,
 ) -> Result<Boxed<Formula>, NoMemory>
     ensures meaning { IfOk result (λ r. (m : Reading) → holds r m ≡ is_number m variable (fitting m.ints (m.number left 0 -ℤ m.number right 0))) }
-    ensures sorted { IfOk result (λ r. (p : Posed) (kinds : Kinds) → IsTrue (is_variable p kinds AsNumber variable) → IsTrue (is_variable p kinds AsNumber left) → IsTrue (is_variable p kinds AsNumber right) → IsTrue (is_sorted p kinds r)) }
+    ensures sorted { IfOk result (λ r. (p : Posed) (kinds : Kinds) → IsTrue (is_variable p kinds AsNumber variable)
+        → IsTrue (is_variable p kinds AsNumber left) → IsTrue (is_variable p kinds AsNumber right)
+        → IsTrue (is_sorted p kinds r)) }
 {
     let left = NumExpr::variable(alloc, left)?;
     let right = NumExpr::variable(alloc, right)?;
@@ -197,7 +204,9 @@ pub(crate) fn is_product(
     right: RelVar,
 ) -> Result<Boxed<Formula>, NoMemory>
     ensures meaning { IfOk result (λ r. (m : Reading) → holds r m ≡ is_number m variable (fitting m.ints (m.number left 0 *ℤ m.number right 0))) }
-    ensures sorted { IfOk result (λ r. (p : Posed) (kinds : Kinds) → IsTrue (is_variable p kinds AsNumber variable) → IsTrue (is_variable p kinds AsNumber left) → IsTrue (is_variable p kinds AsNumber right) → IsTrue (is_sorted p kinds r)) }
+    ensures sorted { IfOk result (λ r. (p : Posed) (kinds : Kinds) → IsTrue (is_variable p kinds AsNumber variable)
+        → IsTrue (is_variable p kinds AsNumber left) → IsTrue (is_variable p kinds AsNumber right)
+        → IsTrue (is_sorted p kinds r)) }
 {
     let left = NumExpr::variable(alloc, left)?;
     let right = NumExpr::variable(alloc, right)?;
@@ -215,7 +224,9 @@ pub(crate) fn is_sameness(
     right: RelVar,
 ) -> Result<Boxed<Formula>, NoMemory>
     ensures meaning { IfOk result (λ r. (m : Reading) → holds r m ≡ same_flag (m.flag variable 0) (same_variables m kind left right)) }
-    ensures sorted { IfOk result (λ r. (p : Posed) (kinds : Kinds) → IsTrue (is_variable p kinds AsFlag variable) → IsTrue (is_variable p kinds (use_of_kind kind) left) → IsTrue (is_variable p kinds (use_of_kind kind) right) → IsTrue (is_sorted p kinds r)) }
+    ensures sorted { IfOk result (λ r. (p : Posed) (kinds : Kinds) → IsTrue (is_variable p kinds AsFlag variable)
+        → IsTrue (is_variable p kinds (use_of_kind kind) left) → IsTrue (is_variable p kinds (use_of_kind kind) right)
+        → IsTrue (is_sorted p kinds r)) }
 {
     let variable = Formula::flag(alloc, variable)?;
     let truth = same_variable(alloc, kind, left, right)?;
@@ -231,7 +242,9 @@ pub(crate) fn is_order(
     right: RelVar,
 ) -> Result<Boxed<Formula>, NoMemory>
     ensures meaning { IfOk result (λ r. (m : Reading) → holds r m ≡ same_flag (m.flag variable 0) (int_lt (m.number left 0) (m.number right 0))) }
-    ensures sorted { IfOk result (λ r. (p : Posed) (kinds : Kinds) → IsTrue (is_variable p kinds AsFlag variable) → IsTrue (is_variable p kinds AsNumber left) → IsTrue (is_variable p kinds AsNumber right) → IsTrue (is_sorted p kinds r)) }
+    ensures sorted { IfOk result (λ r. (p : Posed) (kinds : Kinds) → IsTrue (is_variable p kinds AsFlag variable)
+        → IsTrue (is_variable p kinds AsNumber left) → IsTrue (is_variable p kinds AsNumber right)
+        → IsTrue (is_sorted p kinds r)) }
 {
     let variable = Formula::flag(alloc, variable)?;
     let left = NumExpr::variable(alloc, left)?;
@@ -261,7 +274,9 @@ fn is_number_of(
     field: RelVar,
 ) -> Result<Boxed<Formula>, NoMemory>
     ensures meaning { IfOk result (λ r. (m : Reading) → holds r m ≡ is_cell m kind.Int variable object field) }
-    ensures sorted { IfOk result (λ r. (p : Posed) (kinds : Kinds) → IsTrue (is_variable p kinds AsNumber variable) → IsTrue (is_variable p kinds AsSet object) → IsTrue (is_spread p kinds AsNumber field) → IsTrue (is_sorted p kinds r)) }
+    ensures sorted { IfOk result (λ r. (p : Posed) (kinds : Kinds) → IsTrue (is_variable p kinds AsNumber variable)
+        → IsTrue (is_variable p kinds AsSet object) → IsTrue (is_spread p kinds AsNumber field)
+        → IsTrue (is_sorted p kinds r)) }
 {
     let object = RelExpr::variable(alloc, object)?;
     let number = NumExpr::at(alloc, object, field)?;
@@ -277,7 +292,9 @@ fn is_flag_of(
     field: RelVar,
 ) -> Result<Boxed<Formula>, NoMemory>
     ensures meaning { IfOk result (λ r. (m : Reading) → holds r m ≡ is_cell m kind.Flag variable object field) }
-    ensures sorted { IfOk result (λ r. (p : Posed) (kinds : Kinds) → IsTrue (is_variable p kinds AsFlag variable) → IsTrue (is_variable p kinds AsSet object) → IsTrue (is_spread p kinds AsFlag field) → IsTrue (is_sorted p kinds r)) }
+    ensures sorted { IfOk result (λ r. (p : Posed) (kinds : Kinds) → IsTrue (is_variable p kinds AsFlag variable)
+        → IsTrue (is_variable p kinds AsSet object) → IsTrue (is_spread p kinds AsFlag field)
+        → IsTrue (is_sorted p kinds r)) }
 {
     let variable = Formula::flag(alloc, variable)?;
     let object = RelExpr::variable(alloc, object)?;
@@ -304,7 +321,9 @@ fn is_reference_of(
     field: RelVar,
 ) -> Result<Boxed<Formula>, NoMemory>
     ensures meaning { IfOk result (λ r. (m : Reading) → holds r m ≡ same_sets m (m.refs variable 0) (joined m (m.refs object 0) field)) }
-    ensures sorted { IfOk result (λ r. (p : Posed) (kinds : Kinds) → IsTrue (is_variable p kinds AsSet variable) → IsTrue (is_variable p kinds AsSet object) → IsTrue (is_spread p kinds AsSet field) → IsTrue (is_sorted p kinds r)) }
+    ensures sorted { IfOk result (λ r. (p : Posed) (kinds : Kinds) → IsTrue (is_variable p kinds AsSet variable)
+        → IsTrue (is_variable p kinds AsSet object) → IsTrue (is_spread p kinds AsSet field)
+        → IsTrue (is_sorted p kinds r)) }
 {
     let inner = RelExpr::variable(alloc, variable)?;
     let outer = references_at(alloc, object, field)?;
@@ -325,7 +344,9 @@ pub(crate) fn is_this_cell(
     field: RelVar,
 ) -> Result<Boxed<Formula>, NoMemory>
     ensures meaning { IfOk result (λ r. (m : Reading) → holds r m ≡ is_cell m kind variable object field) }
-    ensures sorted { IfOk result (λ r. (p : Posed) (kinds : Kinds) → IsTrue (is_variable p kinds (use_of_kind kind) variable) → IsTrue (is_variable p kinds AsSet object) → IsTrue (is_spread p kinds (use_of_kind kind) field) → IsTrue (is_sorted p kinds r)) }
+    ensures sorted { IfOk result (λ r. (p : Posed) (kinds : Kinds)
+        → IsTrue (is_variable p kinds (use_of_kind kind) variable) → IsTrue (is_variable p kinds AsSet object)
+        → IsTrue (is_spread p kinds (use_of_kind kind) field) → IsTrue (is_sorted p kinds r)) }
 {
     match kind {
         Kind::Int => {

@@ -10,6 +10,7 @@ mod part;
 mod point;
 mod sameness;
 mod setting;
+mod zero;
 
 pub use acting::act;
 pub use heap_steps::write;
@@ -18,3 +19,4 @@ pub use part::{Basis, Front, Part};
 pub use point::Point;
 pub use sameness::{same_relation, test};
 pub use setting::{below, constant, copy, difference, product, read, same, sum};
+pub use zero::has_zero;

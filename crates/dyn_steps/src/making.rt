@@ -176,7 +176,9 @@ fn field_grown(
     field: u8,
 ) -> Result<Boxed<Formula>, NoMemory>
     ensures meaning { IfOk result (λ r. (m : Reading) → holds r m ≡ field_grown_lem m declared.now from.now.at from.now.next variable field) }
-    ensures sorted { IfOk result (λ r. (p : Posed) (kinds : Kinds) → p.unit.fields ≡ declared.now → IsTrue (is_some (slice_get declared.now field)) → IsTrue (nat_lt 0 p.scope.objects) → IsTrue (is_variable p kinds AsSet variable) → IsTrue (is_sorted p kinds r)) }
+    ensures sorted { IfOk result (λ r. (p : Posed) (kinds : Kinds) → p.unit.fields ≡ declared.now
+        → IsTrue (is_some (slice_get declared.now field)) → IsTrue (nat_lt 0 p.scope.objects)
+        → IsTrue (is_variable p kinds AsSet variable) → IsTrue (is_sorted p kinds r)) }
 {
     let kind = kind_of_field(declared, field);
     let given = given(What::Field(field), from)?;
@@ -196,7 +198,9 @@ fn fields_grown(
     fields: &[u8],
 ) -> Result<Boxed<Formula>, NoMemory>
     ensures meaning { IfOk result (λ r. (m : Reading) → holds r m ≡ list_all (field_grown_lem m declared.now from.now.at from.now.next variable) fields.now) }
-    ensures sorted { IfOk result (λ r. (p : Posed) (kinds : Kinds) → p.unit.fields ≡ declared.now → IsTrue (list_all (λ f. is_some (slice_get declared.now f)) fields.now) → IsTrue (nat_lt 0 p.scope.objects) → IsTrue (is_variable p kinds AsSet variable) → IsTrue (is_sorted p kinds r)) }
+    ensures sorted { IfOk result (λ r. (p : Posed) (kinds : Kinds) → p.unit.fields ≡ declared.now
+        → IsTrue (list_all (λ f. is_some (slice_get declared.now f)) fields.now) → IsTrue (nat_lt 0 p.scope.objects)
+        → IsTrue (is_variable p kinds AsSet variable) → IsTrue (is_sorted p kinds r)) }
 {
     let mut parts = Items::from_vec(Vec::with_capacity(alloc, fields.len())?);
     for field in fields {
@@ -221,7 +225,10 @@ fn object_made(
     from: &Front,
     variable: RelVar,
 ) -> Result<Boxed<Formula>, NoMemory>
-    ensures meaning { IfOk result (λ r. (m : Reading) → holds r m ≡ (not (there m (relation_at from.now.at what.Live) (basis.entry.problem.now.scope.objects - 1)) && list_all (is_placed_lem m variable (relation_at from.now.at what.Live)) (numbers_below basis.entry.problem.now.scope.objects) && live_grown_lem m from.now.at from.now.next variable)) }
+    ensures meaning { IfOk result (λ r. (m : Reading)
+        → holds r m ≡ (not (there m (relation_at from.now.at what.Live) (basis.entry.problem.now.scope.objects - 1))
+        && list_all (is_placed_lem m variable (relation_at from.now.at what.Live)) (numbers_below basis.entry.problem.now.scope.objects)
+        && live_grown_lem m from.now.at from.now.next variable)) }
     ensures sorted { IfOk result (λ r. (kinds : Kinds) → IsTrue (is_variable basis.entry.problem.now kinds AsSet variable) → IsTrue (is_sorted basis.entry.problem.now kinds r)) }
 {
     well_posed(basis.problem);
@@ -266,7 +273,10 @@ fn all_made(
     fields: &[u8],
 ) -> Result<Boxed<Formula>, NoMemory>
     ensures meaning { IfOk result (λ r. (m : Reading) → holds r m ≡ is_made m basis.entry.problem.now from.now.at from.now.next target class fields.now) }
-    ensures sorted { IfOk result (λ r. (kinds : Kinds) → IsTrue (is_variable basis.entry.problem.now kinds AsSet (slot_lem target from.now.next)) → IsTrue (list_all (λ f. is_some (slice_get basis.entry.problem.now.unit.fields f)) fields.now) → IsTrue (is_sorted basis.entry.problem.now kinds r)) }
+    ensures sorted { IfOk result (λ r. (kinds : Kinds)
+        → IsTrue (is_variable basis.entry.problem.now kinds AsSet (slot_lem target from.now.next))
+        → IsTrue (list_all (λ f. is_some (slice_get basis.entry.problem.now.unit.fields f)) fields.now)
+        → IsTrue (is_sorted basis.entry.problem.now kinds r)) }
 {
     well_posed(basis.problem);
     let variable = slot(target, from.next);
@@ -288,7 +298,8 @@ fn make_of(
     class: u8,
     fields: &[u8],
 ) -> Result<Part, NoMemory>
-    ensures { IfOk result (λ r. (d : TheClass) → slice_get basis.entry.problem.now.unit.classes class ≡ Some d → d.fields ≡ fields.now → IsStep basis.entry.problem.now basis.entry.kinds.now (acts.Make target class) from r) }
+    ensures { IfOk result (λ r. (d : TheClass) → slice_get basis.entry.problem.now.unit.classes class ≡ Some d
+        → d.fields ≡ fields.now → IsStep basis.entry.problem.now basis.entry.kinds.now (acts.Make target class) from r) }
 {
     well_posed(basis.problem);
     let formula = all_made(alloc, basis, &from, target, class, fields)?;

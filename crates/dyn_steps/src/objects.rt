@@ -86,7 +86,9 @@ fn is_placed(
     object: u8,
 ) -> Result<Boxed<Formula>, NoMemory>
     ensures meaning { IfOk result (λ r. (m : Reading) → holds r m ≡ is_placed_lem m variable live object) }
-    ensures sorted { IfOk result (λ r. (p : Posed) (kinds : Kinds) → IsTrue (nat_lt object p.scope.objects) → IsTrue (is_variable p kinds AsSet variable) → IsTrue (is_spread p kinds AsFlag live) → IsTrue (is_sorted p kinds r)) }
+    ensures sorted { IfOk result (λ r. (p : Posed) (kinds : Kinds) → IsTrue (nat_lt object p.scope.objects)
+        → IsTrue (is_variable p kinds AsSet variable) → IsTrue (is_spread p kinds AsFlag live)
+        → IsTrue (is_sorted p kinds r)) }
 {
     let next = is_next(alloc, live, object)?;
     let is = is_the_object(alloc, variable, object)?;
@@ -102,7 +104,9 @@ pub(crate) fn all_placed(
     objects: u8,
 ) -> Result<Boxed<Formula>, NoMemory>
     ensures meaning { IfOk result (λ r. (m : Reading) → holds r m ≡ list_all (is_placed_lem m variable live) (numbers_below objects)) }
-    ensures sorted { IfOk result (λ r. (p : Posed) (kinds : Kinds) → objects ≤ p.scope.objects → IsTrue (is_variable p kinds AsSet variable) → IsTrue (is_spread p kinds AsFlag live) → IsTrue (is_sorted p kinds r)) }
+    ensures sorted { IfOk result (λ r. (p : Posed) (kinds : Kinds) → objects ≤ p.scope.objects
+        → IsTrue (is_variable p kinds AsSet variable) → IsTrue (is_spread p kinds AsFlag live)
+        → IsTrue (is_sorted p kinds r)) }
 {
     let mut parts = Items::from_vec(Vec::with_capacity(alloc, usize::from(objects))?);
     for object in 0..objects {

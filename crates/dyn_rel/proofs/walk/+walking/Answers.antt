@@ -23,12 +23,16 @@ choice-loop-branch-init t c = λ kinded point.
 
 pub choice-loop-branch-preserved : goal.choice-loop-branch-preserved
 choice-loop-branch-preserved t c = λ kinded point.
-    choice_step c.args.basis.problem.now c.args.basis.kinds.now c.args.from (record { at = c.in_ok-at.at; next = c.loop-branch.all.end.next }) c.args.branches.now c.loop-branch.branch-index c.branch-item.result
-    c.loop-branch.all c.in_ok-made.made c.in_ok-all-2.all kinded point c.loop-branch-test.true c.branch-item.is (ap (λ (z : Point). record { at = z; next = c.loop-branch.all.end.next }) c.in_ok-at.ensures)
+    choice_step c.args.basis.problem.now c.args.basis.kinds.now c.args.from (record { at = c.in_ok-at.at; next = c.loop-branch.all.end.next })
+    c.args.branches.now c.loop-branch.branch-index c.branch-item.result
+    c.loop-branch.all c.in_ok-made.made c.in_ok-all-2.all kinded point c.loop-branch-test.true c.branch-item.is
+    (ap (λ (z : Point). record { at = z; next = c.loop-branch.all.end.next }) c.in_ok-at.ensures)
     (c.loop-branch.invariant kinded point) c.in_ok-made.ensures (c.in_ok-all-2.ensures c.args.basis.problem.now all_vars)
 
 pub choice-returns : goal.choice-returns
-choice-returns t c = λ kinded point. choice_ended c.args.basis.problem.now c.args.basis.kinds.now c.args.from c.args.branches.now c.loop-branch.branch-index _ c.loop-branch-test.false (c.loop-branch.invariant kinded point)
+choice-returns t c = λ kinded point.
+    choice_ended c.args.basis.problem.now c.args.basis.kinds.now c.args.from c.args.branches.now c.loop-branch.branch-index _ c.loop-branch-test.false
+    (c.loop-branch.invariant kinded point)
 
 pub sequence-loop-part-preserved : goal.sequence-loop-part-preserved
 sequence-loop-part-preserved t c = λ kinded point.
