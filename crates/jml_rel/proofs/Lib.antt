@@ -2,3 +2,6 @@ mod Shown
 mod Linking
 mod Forms
 mod Environments
+mod Gathering
+mod Objects
+mod Starting

@@ -3,3 +3,4 @@ pub mod Points
 pub mod Links
 pub mod Parts
 pub mod Clauses
+pub mod Asked

@@ -1,7 +1,19 @@
-ghost use Rattle.jml_rel.specs.Clauses.{InvariantsAreShown};
+ghost use Rattle.jml_rel.specs.Clauses.{EntriesAreShown, ExitsAreShown, InvariantsAreShown};
 
 /// A law of the definitions: a heap that is shown at given indices, with one of its objects as receiver, shows what
 /// the invariants of that object are evaluated in, at the indices of the heap alone.
 pub fn invariants_are_shown()
     ensures { InvariantsAreShown }
+{}
+
+/// A law of the definitions: a start that is shown, at indices that list its parameters, shows what its `requires`
+/// clauses are evaluated in; the receiver is its variable, or null.
+pub fn entries_are_shown()
+    ensures { EntriesAreShown }
+{}
+
+/// A law of the definitions: a start that is shown at the indices of the pre-state, a heap and a result that are shown
+/// at those of the end show what the `ensures` clauses are evaluated in.
+pub fn exits_are_shown()
+    ensures { ExitsAreShown }
 {}

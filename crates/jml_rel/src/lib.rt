@@ -1,7 +1,12 @@
 //! Clauses of JML as relational formulas.
 #![tactic(auto)]
 
+mod asked;
 mod clauses;
+mod fields;
+mod guards;
+mod heaps;
+mod invariants;
 mod laws;
 mod links;
 mod place;
@@ -9,4 +14,5 @@ mod variables;
 mod walk;
 
 pub use clauses::{Three, clause_formulas};
-pub use laws::invariants_are_shown;
+pub use heaps::{good_formula, inside_formula};
+pub use laws::{entries_are_shown, exits_are_shown, invariants_are_shown};

@@ -1,4 +1,4 @@
-ghost use Rattle.std.specs.Prelude.{◌≡◌, ◌++◌, ◌∷◌, [], Option, nat_lt, slice_get, IfOk, IsTrue};
+ghost use Rattle.std.specs.Prelude.{◌≡◌, ◌++◌, ◌∷◌, [], Option, slice_get, IfOk, IsTrue};
 ghost use Rattle.heap_core.specs.declared.value.Value.{Value};
 ghost use Rattle.heap_core.specs.declared.value.Seen.{Seen};
 ghost use Rattle.heap_core.specs.Posed.{Posed};
@@ -6,22 +6,20 @@ ghost use Rattle.heap_core.specs.Outcomes.{value_in, with_value};
 ghost use Rattle.heap_core.specs.Heap.{field as field_lem};
 ghost use Rattle.heap_core.specs.Eval.{Env, binary, eval, has, size};
 ghost use Rattle.rel_core.specs.Reading.{Reading};
-ghost use Rattle.rel_core.specs.Uses.{Kinds, is_sorted};
-ghost use Rattle.rel_core.specs.Meaning.{holds};
-ghost use Rattle.rel_core.specs.Laws.{is_of_shown};
+ghost use Rattle.rel_core.specs.Uses.{Kinds};
 ghost use Rattle.clause_terms.specs.Terms.{IsSortedTerm, IsSortedTruth, Judges, Tells};
 ghost use Rattle.jml_rel.specs.Places.{ShowsVariable, Shows, Sorts, SortsVariable};
 ghost use Rattle.jml_rel.specs.Points.{point_of};
 ghost use Rattle.jml_rel.specs.Parts.{chain_operator, instance_at, quantified_at};
 
+use crate::guards::is_there;
 use crate::links::links;
 use crate::place::Place;
 use crate::variables::parameter;
 use clause_terms::{Instances, Term, Truth};
 use heap_core::well_posed;
 use no_memory::NoMemory;
-use rel_core::{Formula, RelExpr, RelVar};
-use sqlite_items::Boxed;
+use rel_core::RelVar;
 use std::alloc::Global;
 use taco_unit::{Expr, Kind, Op, Quant};
 
@@ -83,21 +81,6 @@ fn field(alloc: Global, place: Place<'_>, operand: Term, number: u8) -> Result<T
             Ok(term)
         }
     }
-}
-
-/// The object is there, and of the class.
-fn guard(alloc: Global, place: Place<'_>, class: u8, object: u8) -> Result<Boxed<Formula>, NoMemory>
-    ensures meaning { IfOk result (λ f. (m : Reading) → IsTrue (nat_lt object m.objects) → holds f m ≡ is_of_shown m (point_of place.entry).heap class object) }
-    ensures sorted { IfOk result (λ f. (kinds : Kinds) → IsTrue (nat_lt object (point_of place.entry).problem.scope.objects) → IsTrue (is_sorted (point_of place.entry).problem kinds f)) }
-{
-    let live_at = place.heap.live();
-    let class_at = place.heap.class();
-    let first = RelExpr::object(alloc, object)?;
-    let live = Formula::flag_at(alloc, first, live_at)?;
-    let second = RelExpr::object(alloc, object)?;
-    let of = Formula::is_class(alloc, second, class, class_at)?;
-    let both = Formula::both(alloc, live, of)?;
-    Ok(both)
 }
 
 /// `.has` of a `\reach` along these fields.
@@ -290,7 +273,7 @@ fn quantified(alloc: Global, place: Place<'_>, quant: &Quant) -> Result<Term, No
             ..place
         };
         let truth = instance(alloc, inner, quant)?;
-        let there = guard(alloc, place, quant.class, object)?;
+        let there = is_there(alloc, place.heap, quant.class, object)?;
         instances.add(alloc, quant.all, there, truth)?;
     }
     let term = Instances::over(alloc, quant.all, instances)?;

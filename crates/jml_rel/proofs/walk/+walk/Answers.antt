@@ -261,6 +261,6 @@ quantified-loop-object-preserved t c =
           ∙ sym ((heaps_are_read c.args.place.problem.now.unit m c.args.place.heap.now env.heap c.well_posed.ensures.unit shown.heap).objects c.args.quant.now.class c.loop-object.object))
           (c.in_ok-truth.ensures.told (bind env c.loop-object.object) m (shows_bound (point_of c.args.place) env m c.loop-object.object c.as_slice.result.now bound small shown))
           (c.loop-object.invariant.told env m shown);
-      sorted = λ kinds sorts. c.in_ok-add.ensures.sorted c.args.place.problem.now kinds (c.in_ok-there.ensures.sorted kinds small)
+      sorted = λ kinds sorts. c.in_ok-add.ensures.sorted c.args.place.problem.now kinds (c.in_ok-there.ensures.sorted c.args.place.problem.now kinds small)
           (c.in_ok-truth.ensures.sorted kinds (sorts_bound (point_of c.args.place) kinds c.loop-object.object c.as_slice.result.now bound small sorts)) (c.loop-object.invariant.sorted kinds sorts);
     }
