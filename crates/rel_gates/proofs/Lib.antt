@@ -14,4 +14,9 @@ pub mod Inclusions
 pub mod OnlyOne
 pub mod AtOnly
 pub mod AllNamed
+pub mod BitRows
+pub mod InputLists
+pub mod TupleNaming
+pub mod TuplesInOrder
+pub mod ClassLimits
 pub mod Told

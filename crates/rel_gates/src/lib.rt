@@ -2,10 +2,14 @@
 //! that a table still has.
 #![tactic(auto)]
 
+mod bits;
+mod classes;
 mod inputs;
+mod limits;
 mod members;
 mod named;
 mod naming;
 mod truths;
+mod tuples;
 mod uses;
 mod widths;

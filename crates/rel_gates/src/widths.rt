@@ -1,10 +1,20 @@
-ghost use Rattle.std.specs.Prelude.{◌≡◌, ◌≤◌, ℕ, Some, None, option_map};
+ghost use Rattle.std.specs.Prelude.{◌≡◌, ◌≤◌, ℕ, Some, None, length, option_map};
 ghost use Rattle.rel_core.specs.Uses.{use_of, use_of_kind};
 ghost use Rattle.rel_gates.specs.Shown.{class_bits as class_bits_lem, width_of, rows_of};
 
-use heap_core::Problem;
+use heap_core::{Problem, well_posed};
 use rel_core::What;
 use taco_unit::Kind;
+
+/// How many classes the unit has.
+pub(crate) fn class_count(problem: &Problem) -> usize
+    ensures count { result ≡ length problem.now.unit.classes }
+    ensures some { 1 ≤ length problem.now.unit.classes }
+    ensures few { result ≤ 16 }
+{
+    well_posed(problem);
+    problem.unit.classes.len()
+}
 
 /// As many bits as the class numbers of a unit need: at most four.
 #[tactic(auto, using(crate::proofs::ClassBits::class_widths))]
