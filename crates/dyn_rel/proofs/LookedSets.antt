@@ -1,15 +1,14 @@
 -- Sets of variables as lists, and what is looked at from before each form of a program on.
-use Rattle.std.proofs.Common.{◌≡◌, ◌⊎◌, ℕ, zero, suc, ◌+◌, ◌-◌, ◌<◌, ◌≤◌, Bool, true, false, not, ◌&&◌, ◌||◌}
+use Rattle.std.proofs.Common.{◌≡◌, ℕ, zero, suc, ◌+◌, ◌-◌, ◌<◌, ◌≤◌, Bool, true, false, not, ◌&&◌, ◌||◌}
 use Rattle.std.proofs.Common.{List, [], ◌∷◌, ◌++◌, length, map, take, drop, inl, inr, refl, sym, ◌∙◌, ap, subst, arith, get_or, replicate}
-use Rattle.std.specs.Prelude.{◌==◌, slice_set}
-use Rattle.std.specs.List.{list_any}
+use Rattle.std.specs.Prelude.{slice_set}
 use Rattle.std.proofs.lemmas.Bool.{cases_eq, eq-eqb, ne_eqb, or_left, or_right, false≢true}
-use Rattle.std.proofs.lemmas.List.{length-set, get_or-set_same, get_or-set_other, get_or-replicate, length-replicate, take_more, take_all, drop_more}
+use Rattle.std.proofs.lemmas.List.{length-set, get_or-set_same, get_or-set_other, get_or-replicate, length-replicate, take_more, take_all}
 use Rattle.std.proofs.lemmas.List.FromFn.{length-map-range_with_len, get_or-map-range_with_len, map-range_with_len_more}
 use Rattle.heap_core.specs.declared.value.Value.{Value}
 use Rattle.rel_core.specs.Reading.{numbers_below}
 use Rattle.dyn_core.specs.declared.prog.Act.{Act}
-use Rattle.dyn_core.specs.declared.prog.Act.TheVariants.{Copy, Const, Sum, Diff, Product, Same, Below, Read, Write, Make}
+use Rattle.dyn_core.specs.declared.prog.Act.TheVariants.{Copy, Const, Read, Write, Make}
 use Rattle.dyn_core.specs.declared.prog.Prog.{Prog, fold_out-Prog}
 use Rattle.dyn_core.specs.declared.prog.Prog.TheVariants as q
 use Rattle.dyn_steps.specs.Looked.{Vars, all_vars, with_one, without, looked_at}

@@ -20,7 +20,7 @@ use Rattle.dyn_core.specs.declared.prog.Prog.{Prog}
 use Rattle.dyn_core.specs.declared.prog.Prog.TheVariants as q
 use Rattle.dyn_core.specs.declared.state.DynState.{DynState}
 use Rattle.dyn_core.specs.Runs.{RunUpTo}
-use Rattle.dyn_core.specs.Kinds.{is_kinded, HasKinds}
+use Rattle.dyn_core.specs.Kinds.{is_kinded}
 use Rattle.dyn_core.specs.Laws.{Chain}
 use Rattle.dyn_core.proofs.Cases.{cases_up_to}
 use Rattle.dyn_core.proofs.Forms.{kinded_act, kinded_test, kinded_seq, kinded_choice}

@@ -1,38 +1,34 @@
 -- The formula of a whole program, from the part that is built at index 0.
-use Rattle.std.proofs.Common.{◌≡◌, ℕ, ◌<◌, Bool, true, List, length, inr, refl, sym, ◌∙◌, ap, subst, arith}
-use Rattle.std.specs.Prelude.{map, replicate, slice_get, Contains}
+use Rattle.std.proofs.Common.{◌≡◌, ℕ, Bool, true, List, length, inr, refl, sym, ◌∙◌, ap, subst, arith}
+use Rattle.std.specs.Prelude.{replicate, slice_get, Contains}
 use Rattle.std.proofs.lemmas.List.{length-replicate}
 use Rattle.taco_unit.specs.declared.kind.Kind.{Kind}
 use Rattle.taco_unit.specs.Well.{IsWell}
 use Rattle.heap_core.specs.Posed.{Posed, InRange}
-use Rattle.rel_core.specs.declared.formula.Formula.{Formula}
 use Rattle.rel_core.specs.declared.indices.Indices.{Indices}
 use Rattle.rel_core.specs.declared.relation.RelVar.{RelVar}
 use Rattle.rel_core.specs.declared.relation.What.{What}
 use Rattle.rel_core.specs.declared.relation.What.TheVariants as what
 use Rattle.rel_core.specs.Reading.{Reading, numbers_below}
-use Rattle.rel_core.specs.Meaning.{holds}
-use Rattle.rel_core.specs.Uses.{IsOf, is_sorted}
 use Rattle.rel_core.specs.Shown.{IsFirst}
 use Rattle.rel_core.specs.States.{reading_of_state}
 use Rattle.rel_core.specs.Laws.{StateIsShown}
 use Rattle.rel_core.proofs.StartsShown.{states_are_shown}
 use Rattle.dyn_core.specs.declared.prog.Prog.{Prog}
 use Rattle.dyn_core.specs.declared.state.DynState.{DynState}
-use Rattle.dyn_core.specs.Runs.{ends, RunUpTo, Run}
+use Rattle.dyn_core.specs.Runs.{RunUpTo, Run}
 use Rattle.dyn_core.specs.Kinds.{is_kinded, HasKinds}
 use Rattle.dyn_core.specs.Unrolled.{starless}
 use Rattle.dyn_core.proofs.Alike.{starless_runs_alike}
 use Rattle.dyn_steps.specs.declared.point.Point.{Point}
-use Rattle.dyn_steps.specs.declared.part.Front.{Front}
 use Rattle.dyn_steps.specs.declared.part.Part.{Part}
-use Rattle.dyn_steps.specs.Points.{index_of, relation_at, indices_of, IsPoint}
+use Rattle.dyn_steps.specs.Points.{index_of, indices_of, IsPoint}
 use Rattle.dyn_steps.specs.Looked.{all_vars}
 use Rattle.dyn_steps.specs.Paths.{state_in, Shows, IsPath}
 use Rattle.dyn_steps.proofs.Tested.{path_widened}
 use Rattle.dyn_steps.proofs.Moving.{slot_is, alike_self, agree_at, shows_move}
 use Rattle.dyn_rel.specs.Runs.{IsProgPath}
-use Rattle.dyn_rel.specs.Formulas.{first_point, ShowsAt, IsIndexed, ShowsRun, IsPathFormula}
+use Rattle.dyn_rel.specs.Formulas.{first_point, IsIndexed, ShowsRun, IsPathFormula}
 use Rattle.dyn_rel.specs.Looking.{looked_from, IsBehind}
 use Rattle.dyn_rel.proofs.Lists.{zero_at, numbers_of}
 use Rattle.dyn_rel.proofs.LookedSets.{list_all_vars}

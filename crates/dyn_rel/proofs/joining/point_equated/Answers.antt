@@ -1,4 +1,4 @@
-use Rattle.std.proofs.Common.{refl, sym, ap, subst, ◌∙◌}
+use Rattle.std.proofs.Common.{refl, ◌∙◌}
 use Rattle.std.specs.Prelude.{slice_get}
 use Rattle.dyn_steps.proofs.Combining.{both_of}
 use Rattle.dyn_rel.proofs.Joints.{point_said}

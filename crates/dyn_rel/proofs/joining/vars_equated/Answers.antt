@@ -1,4 +1,4 @@
-use Rattle.std.proofs.Common.{false, length, refl, ap, ◌∙◌, arith, get_or}
+use Rattle.std.proofs.Common.{false, length, ap, ◌∙◌, arith, get_or}
 use Rattle.std.specs.Prelude.{slice_get}
 use Rattle.rel_core.specs.declared.relation.What.TheVariants.{Slot}
 use Rattle.dyn_rel.proofs.Same.{same_empty, same_more, same_said}

@@ -1,4 +1,4 @@
-use Rattle.std.proofs.Common.{◌-◌, ℕ, List, map, take, drop, length}
+use Rattle.std.proofs.Common.{◌-◌, ℕ, map, take, drop, length}
 use Rattle.dyn_steps.specs.Looked.{Vars}
 use Rattle.dyn_rel.specs.Looking.{looked_in_turn, looked_by_any, looked_from, IsList}
 use Rattle.dyn_rel.proofs.looking.+looking.Given as goal

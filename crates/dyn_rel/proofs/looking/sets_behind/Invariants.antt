@@ -1,4 +1,4 @@
-use Rattle.std.proofs.Common.{◌-◌, ℕ, List, map, drop, length}
+use Rattle.std.proofs.Common.{◌-◌, ℕ, map, drop, length}
 use Rattle.dyn_steps.specs.Looked.{Vars}
 use Rattle.dyn_rel.specs.Looking.{looked_in_turn, looked_from, IsList, AreBehind}
 use Rattle.dyn_rel.proofs.looking.sets_behind.Given as goal
