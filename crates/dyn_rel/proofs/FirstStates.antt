@@ -1,7 +1,7 @@
 -- The states with which the runs of a start begin.
-use Rattle.std.proofs.Common.{◌≡◌, ◌⊎◌, ℕ, zero, suc, ◌+◌, ◌<◌, ◌≤◌, Bool, true, false, List, [], ◌∷◌, ◌++◌}
-use Rattle.std.proofs.Common.{length, map, drop, Option, Some, None, inl, inr, refl, sym, ◌∙◌, ap, subst, arith, get_or}
-use Rattle.std.specs.Prelude.{◌↔◌, nat_lt, pos, if◌then◌else◌, slice_get, option_map, unwrap_or}
+use Rattle.std.proofs.Common.{◌≡◌, ℕ, zero, suc, ◌+◌, ◌<◌, ◌≤◌, Bool, true, false, List, [], ◌∷◌, ◌++◌}
+use Rattle.std.proofs.Common.{length, map, drop, Option, Some, inl, inr, refl, sym, ◌∙◌, ap, subst, arith, get_or}
+use Rattle.std.specs.Prelude.{nat_lt, pos, if◌then◌else◌, slice_get, option_map, unwrap_or}
 use Rattle.std.specs.Option.{option_map_or}
 use Rattle.std.specs.Cmp.Lexicographic.{pointwise}
 use Rattle.std.proofs.lemmas.Bool.{false≢true, and_parts}
@@ -21,22 +21,19 @@ use Rattle.heap_core.specs.Outcomes.{zero_of, is_null}
 use Rattle.heap_core.specs.Heap.{Heap}
 use Rattle.heap_core.specs.Start.{Fits, has_kind, is_argument, is_receiver, method_of}
 use Rattle.heap_core.proofs.Lists.{slice_get-append_left}
-use Rattle.heap_core.proofs.FieldLaws.{none_some, some_same}
-use Rattle.rel_core.specs.declared.formula.Formula.{Formula}
+use Rattle.heap_core.proofs.FieldLaws.{some_same}
 use Rattle.rel_core.specs.declared.indices.Indices.{Indices}
 use Rattle.rel_core.specs.declared.relation.What.TheVariants as what
 use Rattle.rel_core.specs.Reading.{Reading}
-use Rattle.rel_core.specs.Meaning.{holds}
-use Rattle.rel_core.specs.Uses.{IsOf, receiver_kinds, start_kinds}
-use Rattle.rel_core.specs.Shown.{IsFirst, ShowsValue, ShowsHeap, ShowsStart, slot_index, slot_relation}
-use Rattle.rel_core.specs.States.{IsState}
+use Rattle.rel_core.specs.Uses.{receiver_kinds, start_kinds}
+use Rattle.rel_core.specs.Shown.{IsFirst, ShowsValue, ShowsHeap, ShowsStart, slot_relation}
 use Rattle.rel_core.proofs.StartsShown.{start_is_state}
 use Rattle.dyn_core.specs.States.{var_at}
 use Rattle.dyn_core.specs.Kinds.{HasKinds}
 use Rattle.dyn_steps.specs.Points.{slot}
 use Rattle.dyn_steps.proofs.Zeros.{zero_kinded}
 use Rattle.dyn_rel.specs.Formulas.{ShowsAt}
-use Rattle.dyn_rel.specs.Starts.{IsRestZero, SaysRestZero, BeginWith, given, first_state, IsStateOf, StartsAreStates}
+use Rattle.dyn_rel.specs.Starts.{IsRestZero, BeginWith, given, first_state, IsStateOf, StartsAreStates}
 use Rattle.dyn_rel.proofs.Joints.{less_or_not}
 
 -- ## lists with an item in the middle

@@ -2,8 +2,7 @@
 use Rattle.std.proofs.Common.{◌≡◌, ◌⊎◌, ℕ, zero, suc, ◌+◌, ◌<◌, ◌≤◌, Bool, true, false, ◌&&◌, ◌||◌, List, []}
 use Rattle.std.proofs.Common.{◌∷◌, ◌++◌, length, map, Option, Some, None, inl, inr, refl, sym, ◌∙◌, ap, subst, arith, get_or}
 use Rattle.std.specs.Prelude.{◌==◌, nat_lt, if◌then◌else◌, slice_get, is_some, option_map}
-use Rattle.std.specs.List.{range_with_len}
-use Rattle.std.proofs.lemmas.Bool.{cases_eq, eq-eqb, ne_eqb, and_parts, and_from, ltb-true, false≢true}
+use Rattle.std.proofs.lemmas.Bool.{and_parts, and_from, ltb-true, false≢true}
 use Rattle.std.proofs.lemmas.List.{get_or_past}
 use Rattle.std.proofs.lemmas.List.FromFn.{length-map-range_with_len, get_or-map-range_with_len, map-range_with_len_more}
 use Rattle.taco_unit.specs.declared.kind.Kind.{Kind}
@@ -19,11 +18,12 @@ use Rattle.dyn_steps.specs.declared.point.Point.{Point}
 use Rattle.dyn_steps.specs.declared.part.Part.{Part}
 use Rattle.dyn_steps.specs.Points.{index_of, relation_at, IsPoint}
 use Rattle.dyn_steps.specs.Agreeing.{IsAlike}
-use Rattle.dyn_steps.specs.Looked.{Vars}
+use Rattle.dyn_steps.specs.Looked.{Vars, IsLooked}
 use Rattle.dyn_steps.specs.Paths.{IsSameness}
 use Rattle.dyn_steps.specs.Joining.{joined, Joins, Equates, AreJoined}
 use Rattle.dyn_steps.proofs.Moving.{alike_self}
-use Rattle.dyn_rel.specs.Joining.{all_joined, joint_point, IsOver, SaysSame}
+use Rattle.dyn_rel.specs.Joining.{all_joined, joint_point, IsOver, SaysOne, SaysSame}
+use Rattle.dyn_rel.specs.Looking.{IsList}
 
 pub less_or_not : (a b : ℕ) → (a < b) ⊎ (b ≤ a)
 less_or_not a b = at (nat_lt a b) refl
@@ -89,15 +89,30 @@ indices_more olds is js all ys i old first second x is_ys is_i is_old is_first i
 -- ## equalities
 
 -- a relation is the same at one index
-pub same_index : (p : Posed) (kinds : List Kind) (w : What) (new old : ℕ) (f : Formula) → new ≡ old → ((m : Reading) → holds f m ≡ true) → is_sorted p (slice_get kinds) f ≡ true
-    → IsSameness p kinds w new old f
+pub same_index :
+    (p : Posed) (kinds : List Kind) (w : What) (new old : ℕ) (f : Formula)
+    → new ≡ old → ((m : Reading) → holds f m ≡ true) → is_sorted p (slice_get kinds) f ≡ true → IsSameness p kinds w new old f
 same_index p kinds w new old f same always sorted = record {
   sorted = sorted;
   meaning = λ m of. (
-    λ is. subst (λ i. IsAlike m (record { what = w; index = old }) m (record { what = w; index = i })) (sym same) (alike_self m
-        (record { what = w; index = old })),
+    λ is. subst (λ i. IsAlike m (record { what = w; index = old }) m (record { what = w; index = i })) (sym same) (alike_self m (record { what = w; index = old })),
     λ alike. always m,
   );
+}
+
+-- what is said where it is so, and nothing where it is not
+pub one_said : (p : Posed) (kinds : List Kind) (so : Bool) (w : What) (new old : ℕ) (f : Formula) → so ≡ true → IsSameness p kinds w new old f → SaysOne p kinds so w new old f
+one_said p kinds so w new old f is same = record {
+  sorted = same.sorted;
+  meaning = λ m of. (λ has is_so. (same.meaning m of).0 has, λ each. (same.meaning m of).1 (each is));
+}
+
+pub none_said :
+    (p : Posed) (kinds : List Kind) (so : Bool) (w : What) (new old : ℕ) (f : Formula)
+    → so ≡ false → ((m : Reading) → holds f m ≡ true) → is_sorted p (slice_get kinds) f ≡ true → SaysOne p kinds so w new old f
+none_said p kinds so w new old f is always sorted = record {
+  sorted = sorted;
+  meaning = λ m of. (λ has is_so. absurd (false≢true (sym is ∙ is_so)), λ each. always m);
 }
 
 there_within : {A : Type 0} (xs : List A) (i : ℕ) → i < length xs → is_some (slice_get xs i) ≡ true
@@ -116,24 +131,28 @@ known_field p kinds f low = mapped (λ (d : FieldDef). use_of_kind d.kind) (slic
 pub known_slot : (p : Posed) (kinds : List Kind) (x : ℕ) → x < length kinds → is_some (use_of p (slice_get kinds) (what.Slot x)) ≡ true
 known_slot p kinds x low = mapped use_of_kind (slice_get kinds x) (there_within kinds x low)
 
+-- each relation is said to be the same at two points, of the variables those that are looked at
+pub record SaysAll (p : Posed) (kinds : List Kind) (set : List Bool) (at joint : Point) (f g a b : Formula) : Type 0 where
+  pub fields : SaysSame p kinds (λ x. what.Field x) (λ x. true) joint.fields at.fields (length at.fields) f
+  pub slots : SaysSame p kinds (λ x. what.Slot x) (λ x. get_or set x false) joint.vars at.vars (length at.vars) g
+  pub live : IsSameness p kinds what.Live joint.live at.live a
+  pub class : IsSameness p kinds what.ClassOf joint.live at.live b
+
 pub point_equates :
-    (p : Posed) (kinds : List Kind) (vars : Vars) (at joint : Point) (f fields slots live class : Formula)
-    → length joint.fields ≡ length at.fields
-    → length joint.vars ≡ length at.vars
-    → SaysSame p kinds (λ x. what.Field x) joint.fields at.fields (length at.fields) fields
-    → SaysSame p kinds (λ x. what.Slot x) joint.vars at.vars (length at.vars) slots
-    → IsSameness p kinds what.Live joint.live at.live live
-    → IsSameness p kinds what.ClassOf joint.live at.live class
+    (p : Posed) (kinds : List Kind) (vars : Vars) (set : List Bool) (at joint : Point) (f fields slots live class : Formula)
+    → IsList (length kinds) vars set
+    → IsOver p kinds at joint
+    → SaysAll p kinds set at joint fields slots live class
     → ((m : Reading) → holds f m ≡ (holds fields m && holds slots m && (holds live m && holds class m)))
     → is_sorted p (slice_get kinds) f ≡ true
     → Equates p kinds vars at joint f
-point_equates p kinds vars at joint f fields slots live class few also of_fields of_slots of_live of_class meaning sorted = record {
+point_equates p kinds vars set at joint f fields slots live class list over of meaning sorted = record {
   sorted = sorted;
-  alike = λ m of is w looked. each m of is w;
-  holds = λ m of all.
+  alike = λ m is_of is w looked. each m is_of is w looked;
+  holds = λ m is_of all.
       meaning m ∙ and_from (holds fields m && holds slots m) (holds live m && holds class m)
-      (and_from (holds fields m) (holds slots m) ((of_fields.meaning m of).1 (λ x low. all (what.Field x))) ((of_slots.meaning m of).1 (λ x low. all (what.Slot x))))
-      (and_from (holds live m) (holds class m) ((of_live.meaning m of).1 (all what.Live)) ((of_class.meaning m of).1 (all what.ClassOf)));
+      (and_from (holds fields m) (holds slots m) ((of.fields.meaning m is_of).1 (λ x low inside. all (what.Field x))) ((of.slots.meaning m is_of).1 (λ x low inside. all (what.Slot x))))
+      (and_from (holds live m) (holds class m) ((of.live.meaning m is_of).1 (all what.Live)) ((of.class.meaning m is_of).1 (all what.ClassOf)));
 }
   where
     past : (m : Reading) (w : What) → index_of at w ≡ 0 → index_of joint w ≡ 0 → IsAlike m (relation_at at w) m (relation_at joint w)
@@ -141,49 +160,52 @@ point_equates p kinds vars at joint f fields slots live class few also of_fields
         subst (λ i. IsAlike m (record { what = w; index = i }) m (relation_at joint w)) (sym first)
         (subst (λ i. IsAlike m (record { what = w; index = 0 }) m (record { what = w; index = i })) (sym second) (alike_self m (record { what = w; index = 0 })))
 
-    each : (m : Reading) → IsOf p (slice_get kinds) m → holds f m ≡ true → (w : What) → IsAlike m (relation_at at w) m (relation_at joint w)
-    each m of is w =
+    each : (m : Reading) → IsOf p (slice_get kinds) m → holds f m ≡ true → (w : What) → IsLooked vars w → IsAlike m (relation_at at w) m (relation_at joint w)
+    each m is_of is w looked =
         let both = and_parts (holds fields m && holds slots m) (holds live m && holds class m) (sym (meaning m) ∙ is) in
         let lists = and_parts (holds fields m) (holds slots m) both.0 in
         let heap = and_parts (holds live m) (holds class m) both.1 in
-        one w lists.0 lists.1 heap.0 heap.1
+        one w looked lists.0 lists.1 heap.0 heap.1
       where
-        one : (w : What) → holds fields m ≡ true → holds slots m ≡ true → holds live m ≡ true → holds class m ≡ true → IsAlike m (relation_at at w) m (relation_at joint w)
-        one what.Live a b c d = (of_live.meaning m of).0 c
-        one what.ClassOf a b c d = (of_class.meaning m of).0 d
-        one (what.Field g) a b c d = elim (less_or_not g (length at.fields)) [
-          | inl low ↦ (of_fields.meaning m of).0 a g low
-          | inr high ↦ past m (what.Field g) (get_or_past at.fields g 0 high) (get_or_past joint.fields g 0 (omega (arith, high, few)))
+        one : (w : What) → IsLooked vars w → holds fields m ≡ true → holds slots m ≡ true → holds live m ≡ true → holds class m ≡ true
+            → IsAlike m (relation_at at w) m (relation_at joint w)
+        one what.Live looked a b c d = (of.live.meaning m is_of).0 c
+        one what.ClassOf looked a b c d = (of.class.meaning m is_of).0 d
+        one (what.Field g) looked a b c d = elim (less_or_not g (length at.fields)) [
+          | inl low ↦ (of.fields.meaning m is_of).0 a g low refl
+          | inr high ↦ past m (what.Field g) (get_or_past at.fields g 0 high) (get_or_past joint.fields g 0 (let few = over.joint_fields in omega (arith, high, few)))
         ]
-        one (what.Slot x) a b c d = elim (less_or_not x (length at.vars)) [
-          | inl low ↦ (of_slots.meaning m of).0 b x low
-          | inr high ↦ past m (what.Slot x) (get_or_past at.vars x 0 high) (get_or_past joint.vars x 0 (omega (arith, high, also)))
+        one (what.Slot x) looked a b c d = elim (less_or_not x (length at.vars)) [
+          | inl low ↦ (of.slots.meaning m is_of).0 b x low (list.same x (let many = over.vars in omega (arith, low, many)) ∙ looked)
+          | inr high ↦ past m (what.Slot x) (get_or_past at.vars x 0 high) (get_or_past joint.vars x 0 (let also = over.joint_vars in omega (arith, high, also)))
         ]
 
 -- the same, by the lists that were handed on
 pub point_said :
-    (p : Posed) (kinds : List Kind) (vars : Vars) (at joint : Point)
+    (p : Posed) (kinds : List Kind) (vars : Vars) (set : List Bool) (at joint : Point)
+    → IsList (length kinds) vars set
     → IsOver p kinds at joint
     → (f fields slots live class : Formula) (to_fields from_fields to_slots from_slots : List ℕ)
     → to_fields ≡ joint.fields → from_fields ≡ at.fields → to_slots ≡ joint.vars → from_slots ≡ at.vars
-    → (length from_fields ≡ length p.unit.fields → SaysSame p kinds (λ x. what.Field x) to_fields from_fields (length from_fields) fields)
-    → (length from_slots ≡ length kinds → SaysSame p kinds (λ x. what.Slot x) to_slots from_slots (length from_slots) slots)
+    → (length from_fields ≡ length p.unit.fields → SaysSame p kinds (λ x. what.Field x) (λ x. true) to_fields from_fields (length from_fields) fields)
+    → (length from_slots ≡ length kinds → SaysSame p kinds (λ x. what.Slot x) (λ x. get_or set x false) to_slots from_slots (length from_slots) slots)
     → IsSameness p kinds what.Live joint.live at.live live
     → IsSameness p kinds what.ClassOf joint.live at.live class
     → ((m : Reading) → holds f m ≡ (holds fields m && holds slots m && (holds live m && holds class m)))
-    → (is_sorted p (slice_get kinds) fields ≡ true → is_sorted p (slice_get kinds) slots ≡ true → is_sorted p (slice_get kinds) live ≡ true → is_sorted p (slice_get kinds)
-    class ≡ true → is_sorted p (slice_get kinds) f ≡ true)
+    → (is_sorted p (slice_get kinds) fields ≡ true → is_sorted p (slice_get kinds) slots ≡ true → is_sorted p (slice_get kinds) live ≡ true
+    → is_sorted p (slice_get kinds) class ≡ true → is_sorted p (slice_get kinds) f ≡ true)
     → Equates p kinds vars at joint f
-point_said p kinds vars at joint over f fields slots live class to_fields from_fields to_slots from_slots tf ff ts fs of_fields of_slots of_live of_class meaning sorted =
-    point_equates p kinds vars at joint f fields slots live class over.joint_fields over.joint_vars said also of_live of_class meaning (sorted said.sorted also.sorted of_live.sorted of_class.sorted)
+point_said p kinds vars set at joint list over f fields slots live class to_fields from_fields to_slots from_slots tf ff ts fs of_fields of_slots of_live of_class meaning sorted =
+    point_equates p kinds vars set at joint f fields slots live class list over (record { fields = said; slots = also; live = of_live; class = of_class }) meaning
+    (sorted said.sorted also.sorted of_live.sorted of_class.sorted)
   where
-    said : SaysSame p kinds (λ x. what.Field x) joint.fields at.fields (length at.fields) fields
-    said = subst (λ xs. SaysSame p kinds (λ x. what.Field x) xs at.fields (length at.fields) fields) tf
-        (subst (λ xs. SaysSame p kinds (λ x. what.Field x) to_fields xs (length xs) fields) ff (of_fields (ap length ff ∙ over.fields)))
+    said : SaysSame p kinds (λ x. what.Field x) (λ x. true) joint.fields at.fields (length at.fields) fields
+    said = subst (λ xs. SaysSame p kinds (λ x. what.Field x) (λ x. true) xs at.fields (length at.fields) fields) tf
+        (subst (λ xs. SaysSame p kinds (λ x. what.Field x) (λ x. true) to_fields xs (length xs) fields) ff (of_fields (ap length ff ∙ over.fields)))
 
-    also : SaysSame p kinds (λ x. what.Slot x) joint.vars at.vars (length at.vars) slots
-    also = subst (λ xs. SaysSame p kinds (λ x. what.Slot x) xs at.vars (length at.vars) slots) ts
-        (subst (λ xs. SaysSame p kinds (λ x. what.Slot x) to_slots xs (length xs) slots) fs (of_slots (ap length fs ∙ over.vars)))
+    also : SaysSame p kinds (λ x. what.Slot x) (λ x. get_or set x false) joint.vars at.vars (length at.vars) slots
+    also = subst (λ xs. SaysSame p kinds (λ x. what.Slot x) (λ x. get_or set x false) xs at.vars (length at.vars) slots) ts
+        (subst (λ xs. SaysSame p kinds (λ x. what.Slot x) (λ x. get_or set x false) to_slots xs (length xs) slots) fs (of_slots (ap length fs ∙ over.vars)))
 
 -- ## two branches
 

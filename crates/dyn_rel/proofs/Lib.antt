@@ -1,5 +1,6 @@
 pub mod Same
 pub mod Joints
+pub mod LookedSets
 pub mod Walking
 pub mod Lists
 pub mod Whole

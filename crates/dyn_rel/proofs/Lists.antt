@@ -1,5 +1,5 @@
 -- Indices with the numbers of their variables, and lists of zeros.
-use Rattle.std.proofs.Common.{◌≡◌, ◌⊎◌, ℕ, zero, suc, ◌+◌, ◌<◌, ◌≤◌, List, [], ◌∷◌, ◌++◌, length, map, take, refl, sym, ◌∙◌, ap, inl, inr, arith, get_or, replicate}
+use Rattle.std.proofs.Common.{◌≡◌, ℕ, suc, ◌+◌, ◌<◌, ◌≤◌, List, [], ◌∷◌, ◌++◌, length, map, take, refl, sym, ◌∙◌, ap, inl, inr, arith, get_or, replicate}
 use Rattle.std.specs.List.{range_with_len}
 use Rattle.std.proofs.lemmas.List.{take_more, take_all, length-take-le, get_or-replicate, get_or_past, length-replicate}
 use Rattle.dyn_steps.specs.Points.{numbered}

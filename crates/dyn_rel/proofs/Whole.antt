@@ -1,38 +1,37 @@
 -- The formula of a whole program, from the part that is built at index 0.
-use Rattle.std.proofs.Common.{◌≡◌, ℕ, ◌<◌, true, List, length, refl, sym, ◌∙◌, ap, subst, arith}
-use Rattle.std.specs.Prelude.{map, replicate, slice_get, Contains}
+use Rattle.std.proofs.Common.{◌≡◌, ℕ, Bool, true, List, length, inr, refl, sym, ◌∙◌, ap, subst, arith}
+use Rattle.std.specs.Prelude.{replicate, slice_get, Contains}
 use Rattle.std.proofs.lemmas.List.{length-replicate}
 use Rattle.taco_unit.specs.declared.kind.Kind.{Kind}
 use Rattle.taco_unit.specs.Well.{IsWell}
 use Rattle.heap_core.specs.Posed.{Posed, InRange}
-use Rattle.rel_core.specs.declared.formula.Formula.{Formula}
 use Rattle.rel_core.specs.declared.indices.Indices.{Indices}
 use Rattle.rel_core.specs.declared.relation.RelVar.{RelVar}
 use Rattle.rel_core.specs.declared.relation.What.{What}
 use Rattle.rel_core.specs.declared.relation.What.TheVariants as what
 use Rattle.rel_core.specs.Reading.{Reading, numbers_below}
-use Rattle.rel_core.specs.Meaning.{holds}
-use Rattle.rel_core.specs.Uses.{IsOf, is_sorted}
 use Rattle.rel_core.specs.Shown.{IsFirst}
 use Rattle.rel_core.specs.States.{reading_of_state}
 use Rattle.rel_core.specs.Laws.{StateIsShown}
 use Rattle.rel_core.proofs.StartsShown.{states_are_shown}
 use Rattle.dyn_core.specs.declared.prog.Prog.{Prog}
 use Rattle.dyn_core.specs.declared.state.DynState.{DynState}
-use Rattle.dyn_core.specs.Runs.{ends, RunUpTo, Run}
+use Rattle.dyn_core.specs.Runs.{RunUpTo, Run}
 use Rattle.dyn_core.specs.Kinds.{is_kinded, HasKinds}
 use Rattle.dyn_core.specs.Unrolled.{starless}
 use Rattle.dyn_core.proofs.Alike.{starless_runs_alike}
 use Rattle.dyn_steps.specs.declared.point.Point.{Point}
-use Rattle.dyn_steps.specs.declared.part.Front.{Front}
 use Rattle.dyn_steps.specs.declared.part.Part.{Part}
-use Rattle.dyn_steps.specs.Points.{index_of, relation_at, indices_of, IsPoint}
+use Rattle.dyn_steps.specs.Points.{index_of, indices_of, IsPoint}
 use Rattle.dyn_steps.specs.Looked.{all_vars}
 use Rattle.dyn_steps.specs.Paths.{state_in, Shows, IsPath}
+use Rattle.dyn_steps.proofs.Tested.{path_widened}
 use Rattle.dyn_steps.proofs.Moving.{slot_is, alike_self, agree_at, shows_move}
 use Rattle.dyn_rel.specs.Runs.{IsProgPath}
-use Rattle.dyn_rel.specs.Formulas.{first_point, ShowsAt, IsIndexed, ShowsRun, IsPathFormula}
+use Rattle.dyn_rel.specs.Formulas.{first_point, IsIndexed, ShowsRun, IsPathFormula}
+use Rattle.dyn_rel.specs.Looking.{looked_from, IsBehind}
 use Rattle.dyn_rel.proofs.Lists.{zero_at, numbers_of}
+use Rattle.dyn_rel.proofs.LookedSets.{list_all_vars}
 
 -- ## indices
 
@@ -106,15 +105,20 @@ module _ (p : Posed) (kinds : List Kind) (prog : Prog) (part : Part) (well : IsW
 
   -- the same, by what was handed on
   pub path_formula_is :
-      (at also : Point) (first last : Indices)
+      (at also : Point) (first last : Indices) (set after : List Bool)
       → is_kinded p kinds prog ≡ true
       → at ≡ begun
       → also ≡ at
       → first ≡ indices_of also
       → last ≡ indices_of part.end.at
-      → IsProgPath p kinds prog (record { at = at; next = 1 }) part
+      → set ≡ replicate (length kinds) true
+      → after ≡ set
+      → (IsBehind prog (length kinds) all_vars after → IsProgPath p kinds all_vars prog (record { at = at; next = 1 }) part)
       → whole first last
-  path_formula_is at also first last kinded at_is also_is first_is last_is path =
+  path_formula_is at also first last set after kinded at_is also_is first_is last_is set_is after_is path =
       subst (λ z. whole z last) (sym (first_is ∙ ap indices_of (also_is ∙ at_is)))
       (subst (λ z. whole (indices_of begun) z) (sym last_is)
-      (path_whole ((subst (λ z. IsProgPath p kinds prog (record { at = z; next = 1 }) part) at_is path) kinded (first_is_point p kinds))))
+      (path_whole (path_widened p kinds (looked_from prog all_vars) all_vars all_vars all_vars (RunUpTo p 0 prog) (record { at = begun; next = 1 }) part
+      (λ x inside. refl) (λ x inside. refl)
+      ((subst (λ z. IsProgPath p kinds all_vars prog (record { at = z; next = 1 }) part) at_is (path (inr (list_all_vars (length kinds) after (after_is ∙ set_is)))))
+      kinded (first_is_point p kinds)))))

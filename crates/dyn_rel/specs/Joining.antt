@@ -1,5 +1,5 @@
 -- Two branches of a program and what joins them. (This project's own.)
-use Rattle.std.specs.Prelude.{◌≡◌, ◌↔◌, ℕ, ◌<◌, List, length, map, get_or, slice_get, IsTrue}
+use Rattle.std.specs.Prelude.{◌≡◌, ◌↔◌, ℕ, ◌<◌, Bool, List, length, map, get_or, slice_get, IsTrue}
 use Rattle.taco_unit.specs.declared.kind.Kind.{Kind}
 use Rattle.heap_core.specs.Posed.{Posed}
 use Rattle.rel_core.specs.declared.formula.Formula.{Formula}
@@ -22,13 +22,21 @@ joint_point at a b = record {
   vars = all_joined at.vars a.vars b.vars;
 }
 
--- of each of these relations, below a number, the formula says that it is the same at two indices
-pub record SaysSame (p : Posed) (kinds : List Kind) (w : ℕ → What) (to from : List ℕ) (n : ℕ) (f : Formula) : Type 0 where
+-- where this is so, the formula says of a relation that it is the same at two indices, and else nothing
+pub record SaysOne (p : Posed) (kinds : List Kind) (so : Bool) (w : What) (new old : ℕ) (f : Formula) : Type 0 where
   pub sorted : IsTrue (is_sorted p (slice_get kinds) f)
   pub meaning :
       (m : Reading)
       → IsOf p (slice_get kinds) m
-      → IsTrue (holds f m) ↔ ((x : ℕ) → x < n → IsAlike m (record { what = w x; index = get_or from x 0 }) m (record { what = w x; index = get_or to x 0 }))
+      → IsTrue (holds f m) ↔ (IsTrue so → IsAlike m (record { what = w; index = old }) m (record { what = w; index = new }))
+
+-- of each of these relations, below a number, where it is one of a set
+pub record SaysSame (p : Posed) (kinds : List Kind) (w : ℕ → What) (inside : ℕ → Bool) (to from : List ℕ) (n : ℕ) (f : Formula) : Type 0 where
+  pub sorted : IsTrue (is_sorted p (slice_get kinds) f)
+  pub meaning :
+      (m : Reading)
+      → IsOf p (slice_get kinds) m
+      → IsTrue (holds f m) ↔ ((x : ℕ) → x < n → IsTrue (inside x) → IsAlike m (record { what = w x; index = get_or from x 0 }) m (record { what = w x; index = get_or to x 0 }))
 
 -- a point has an index for each field of the unit and each variable that has a kind, and the other as many
 pub record IsOver (p : Posed) (kinds : List Kind) (at joint : Point) : Type 0 where

@@ -1,4 +1,5 @@
 pub mod Joining
+pub mod Looking
 pub mod Runs
 pub mod Formulas
 pub mod Starts

@@ -1,6 +1,6 @@
 //! Two branches of a program, and what joins them.
 
-ghost use Rattle.std.specs.Prelude.{◌≡◌, List, length, get_or, slice_get, IfOk, IsTrue, is_some};
+ghost use Rattle.std.specs.Prelude.{◌≡◌, false, true, List, length, get_or, slice_get, IfOk, IsTrue, is_some};
 ghost use Rattle.heap_core.specs.Posed.{Posed};
 ghost use Rattle.rel_core.specs.declared.relation.What.TheVariants as what;
 ghost use Rattle.rel_core.specs.Uses.{use_of};
@@ -8,8 +8,10 @@ ghost use Rattle.dyn_steps.specs.Paths.{IsSameness};
 ghost use Rattle.dyn_steps.specs.Points.{IsPoint};
 ghost use Rattle.dyn_steps.specs.Looked.{Vars};
 ghost use Rattle.dyn_steps.specs.Joining.{joined, AreJoined, Equates};
-ghost use Rattle.dyn_rel.specs.Joining.{all_joined, joint_point, IsOver, SaysSame};
+ghost use Rattle.dyn_rel.specs.Joining.{all_joined, joint_point, IsOver, SaysOne, SaysSame};
+ghost use Rattle.dyn_rel.specs.Looking.{IsList};
 
+use crate::looking::is_in;
 use dyn_steps::{Front, Part, Point, same_relation};
 use no_memory::NoMemory;
 use rel_core::{Formula, What};
@@ -91,6 +93,26 @@ fn equated(
     }
 }
 
+/// The same where it is so, and else nothing.
+fn equated_if(
+    alloc: Global,
+    kinds: &[Kind],
+    so: bool,
+    what: What,
+    new: u32,
+    old: u32,
+) -> Result<Boxed<Formula>, NoMemory>
+    ensures { IfOk result (λ r. (p : Posed) → IsTrue (is_some (use_of p (slice_get kinds.now) what)) → SaysOne p kinds.now so what new old r) }
+{
+    if so {
+        let same = equated(alloc, kinds, what, new, old)?;
+        Ok(same)
+    } else {
+        let always = Formula::constant(alloc, true)?;
+        Ok(always)
+    }
+}
+
 /// The number of a field, where it is one.
 fn field_number(place: usize) -> Result<u8, NoMemory>
     ensures { IfOk result (λ field. field ≡ place) }
@@ -120,52 +142,57 @@ fn fields_equated(
     to: &[u32],
     from: &[u32],
 ) -> Result<Boxed<Formula>, NoMemory>
-    ensures { IfOk result (λ r. (p : Posed) → length from.now ≡ length p.unit.fields → SaysSame p kinds.now (λ x. what.Field x) to.now from.now (length from.now) r) }
+    ensures { IfOk result (λ r. (p : Posed) → length from.now ≡ length p.unit.fields
+        → SaysSame p kinds.now (λ x. what.Field x) (λ x. true) to.now from.now (length from.now) r) }
 {
     let mut parts = Items::from_vec(Vec::with_capacity(alloc, from.len())?);
     for place in 0..from.len() {
         let field = field_number(place)?;
         let new = index_at(to, place);
         let old = index_at(from, place);
-        let same = equated(alloc, kinds, What::Field(field), new, old)?;
+        let same = equated_if(alloc, kinds, true, What::Field(field), new, old)?;
         parts.push(same.into_inner())?;
     }
     let all = Formula::all(alloc, parts)?;
     Ok(all)
 }
 
-/// Each variable that has a kind is the same at two indices.
+/// Each variable of a set is the same at two indices.
 fn vars_equated(
     alloc: Global,
     kinds: &[Kind],
+    set: &[bool],
     to: &[u32],
     from: &[u32],
 ) -> Result<Boxed<Formula>, NoMemory>
-    ensures { IfOk result (λ r. (p : Posed) → length from.now ≡ length kinds.now → SaysSame p kinds.now (λ x. what.Slot x) to.now from.now (length from.now) r) }
+    ensures { IfOk result (λ r. (p : Posed) → length from.now ≡ length kinds.now
+        → SaysSame p kinds.now (λ x. what.Slot x) (λ x. get_or set.now x false) to.now from.now (length from.now) r) }
 {
     let mut parts = Items::from_vec(Vec::with_capacity(alloc, from.len())?);
     for place in 0..from.len() {
         let variable = variable_number(place)?;
+        let looked = is_in(set, place);
         let new = index_at(to, place);
         let old = index_at(from, place);
-        let same = equated(alloc, kinds, What::Slot(variable), new, old)?;
+        let same = equated_if(alloc, kinds, looked, What::Slot(variable), new, old)?;
         parts.push(same.into_inner())?;
     }
     let all = Formula::all(alloc, parts)?;
     Ok(all)
 }
 
-/// Each relation is the same at two points.
+/// Each relation is the same at two points, of the variables each that is looked at.
 fn point_equated(
     alloc: Global,
     kinds: &[Kind],
+    set: &[bool],
     at: &Point,
     joint: &Point,
 ) -> Result<Boxed<Formula>, NoMemory>
-    ensures { IfOk result (λ r. (p : Posed) (vars : Vars) → IsOver p kinds.now at.now joint.now → Equates p kinds.now vars at.now joint.now r) }
+    ensures { IfOk result (λ r. (p : Posed) (vars : Vars) → IsList (length kinds.now) vars set.now → IsOver p kinds.now at.now joint.now → Equates p kinds.now vars at.now joint.now r) }
 {
     let fields = fields_equated(alloc, kinds, joint.fields.as_slice(), at.fields.as_slice())?;
-    let vars = vars_equated(alloc, kinds, joint.vars.as_slice(), at.vars.as_slice())?;
+    let vars = vars_equated(alloc, kinds, set, joint.vars.as_slice(), at.vars.as_slice())?;
     let lists = Formula::both(alloc, fields, vars)?;
     let live = equated(alloc, kinds, What::Live, joint.live, at.live)?;
     let class = equated(alloc, kinds, What::ClassOf, joint.live, at.live)?;
@@ -175,22 +202,23 @@ fn point_equated(
 }
 
 /// The part of two branches that begin at the same indices, the second with the first one's next index. No relation has a
-/// new index. Linear in the fields and variables.
+/// new index, and of the variables only those of a set are looked at behind it. Linear in the fields and variables.
 pub(crate) fn join(
     alloc: Global,
     kinds: &[Kind],
+    set: &[bool],
     at: &Point,
     first: Part,
     second: Part,
 ) -> Result<Part, NoMemory>
-    ensures { IfOk result (λ r. (p : Posed) (vars : Vars) → IsPoint p kinds.now second.end.next at.now
-        → IsPoint p kinds.now second.end.next first.end.at → IsPoint p kinds.now second.end.next second.end.at
+    ensures { IfOk result (λ r. (p : Posed) (vars : Vars) → IsList (length kinds.now) vars set.now
+        → IsPoint p kinds.now second.end.next at.now → IsPoint p kinds.now second.end.next first.end.at → IsPoint p kinds.now second.end.next second.end.at
         → AreJoined p kinds.now vars at.now first second r) }
 {
     let joint = joined_point(alloc, at, &first.end.at, &second.end.at)?;
-    let same = point_equated(alloc, kinds, &first.end.at, &joint)?;
+    let same = point_equated(alloc, kinds, set, &first.end.at, &joint)?;
     let left = Formula::both(alloc, first.formula, same)?;
-    let also = point_equated(alloc, kinds, &second.end.at, &joint)?;
+    let also = point_equated(alloc, kinds, set, &second.end.at, &joint)?;
     let right = Formula::both(alloc, second.formula, also)?;
     let formula = Formula::either(alloc, left, right)?;
     Ok(Part {

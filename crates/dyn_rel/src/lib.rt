@@ -2,6 +2,7 @@
 #![tactic(auto)]
 
 mod joining;
+mod looking;
 mod paths;
 mod starts;
 mod walk;

@@ -7,6 +7,7 @@ ghost use Rattle.dyn_steps.specs.Points.{indices_of, numbered};
 ghost use Rattle.dyn_rel.specs.Formulas.{IsPathFormula, first_point as first_point_lem};
 
 use crate::joining::{index_at, variable_number};
+use crate::looking::filled;
 use crate::walk::part_of;
 use dyn_core::Prog;
 use dyn_steps::{Basis, Front, Part, Point};
@@ -97,7 +98,15 @@ pub fn path_formula(
     let at = first_point(alloc, fields, kinds.len())?;
     let also = at.copy(alloc)?;
     let first = as_indices(alloc, also)?;
-    let part = part_of(alloc, Basis { problem, kinds }, Front { at, next: 1 }, prog)?;
+    let after = filled(alloc, kinds.len(), true)?;
+    let begun = Front { at, next: 1 };
+    let part = part_of(
+        alloc,
+        Basis { problem, kinds },
+        begun,
+        prog,
+        after.as_slice(),
+    )?;
     let Part { formula, end } = part;
     let last = as_indices(alloc, end.at)?;
     Ok(Path {

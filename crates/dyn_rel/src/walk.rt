@@ -1,10 +1,13 @@
 //! The parts of whole programs.
 
-ghost use Rattle.std.specs.Prelude.{IfOk};
+ghost use Rattle.std.specs.Prelude.{length, IfOk};
 ghost use Rattle.dyn_core.specs.declared.prog.Prog.TheVariants as progs;
+ghost use Rattle.dyn_steps.specs.Looked.{Vars};
+ghost use Rattle.dyn_rel.specs.Looking.{IsBehind, IsList};
 ghost use Rattle.dyn_rel.specs.Runs.{IsProgPath};
 
 use crate::joining::join;
+use crate::looking::{last_set, sets_behind};
 use dyn_core::Prog;
 use dyn_steps::{Basis, Front, Part, act, nothing, test};
 use heap_core::well_posed;
@@ -13,16 +16,25 @@ use rel_core::Formula;
 use sqlite_items::Items;
 use std::alloc::Global;
 
-/// The part of all parts in order.
+/// The part of all parts in order, behind which a set of variables is looked at.
 #[cycle(walking)]
-fn sequence(alloc: Global, basis: Basis<'_>, from: Front, parts: &[Prog]) -> Result<Part, NoMemory>
-    ensures { IfOk result (IsProgPath basis.entry.problem.now basis.entry.kinds.now (progs.Seq parts.now) from) }
+fn sequence(
+    alloc: Global,
+    basis: Basis<'_>,
+    from: Front,
+    parts: &[Prog],
+    after: &[bool],
+) -> Result<Part, NoMemory>
+    ensures { IfOk result (λ part. (vars : Vars) → IsList (length basis.entry.kinds.now) vars after.now
+        → IsProgPath basis.entry.problem.now basis.entry.kinds.now vars (progs.Seq parts.now) from part) }
 {
     well_posed(basis.problem);
+    let mut sets = sets_behind(alloc, after, parts)?;
     let mut all = Items::from_vec(Vec::with_capacity(alloc, parts.len())?);
     let mut front = from;
     for part in parts {
-        let made = part_of(alloc, basis, front, part)?;
+        let behind = last_set(alloc, &mut sets);
+        let made = part_of(alloc, basis, front, part, behind.as_slice())?;
         let Part { formula, end } = made;
         all.push(formula.into_inner())?;
         front = end;
@@ -36,8 +48,15 @@ fn sequence(alloc: Global, basis: Basis<'_>, from: Front, parts: &[Prog]) -> Res
 
 /// The part of one of the branches.
 #[cycle(walking)]
-fn choice(alloc: Global, basis: Basis<'_>, from: Front, branches: &[Prog]) -> Result<Part, NoMemory>
-    ensures { IfOk result (IsProgPath basis.entry.problem.now basis.entry.kinds.now (progs.Choice branches.now) from) }
+fn choice(
+    alloc: Global,
+    basis: Basis<'_>,
+    from: Front,
+    branches: &[Prog],
+    after: &[bool],
+) -> Result<Part, NoMemory>
+    ensures { IfOk result (λ part. (vars : Vars) → IsList (length basis.entry.kinds.now) vars after.now
+        → IsProgPath basis.entry.problem.now basis.entry.kinds.now vars (progs.Choice branches.now) from part) }
 {
     let first = from.at.copy(alloc)?;
     let begun = Front {
@@ -51,8 +70,8 @@ fn choice(alloc: Global, basis: Basis<'_>, from: Front, branches: &[Prog]) -> Re
             at,
             next: all.end.next,
         };
-        let made = part_of(alloc, basis, begun, branch)?;
-        all = join(alloc, basis.kinds, &from.at, all, made)?;
+        let made = part_of(alloc, basis, begun, branch, after)?;
+        all = join(alloc, basis.kinds, after, &from.at, all, made)?;
     }
     Ok(all)
 }
@@ -64,8 +83,10 @@ pub(crate) fn part_of(
     basis: Basis<'_>,
     from: Front,
     prog: &Prog,
+    after: &[bool],
 ) -> Result<Part, NoMemory>
-    ensures { IfOk result (IsProgPath basis.entry.problem.now basis.entry.kinds.now prog.now from) }
+    ensures { IfOk result (λ part. (vars : Vars) → IsBehind prog.now (length basis.entry.kinds.now) vars after.now
+        → IsProgPath basis.entry.problem.now basis.entry.kinds.now vars prog.now from part) }
 {
     match prog {
         Prog::Act(action) => {
@@ -77,11 +98,11 @@ pub(crate) fn part_of(
             Ok(part)
         }
         Prog::Seq(parts) => {
-            let part = sequence(alloc, basis, from, parts.as_slice())?;
+            let part = sequence(alloc, basis, from, parts.as_slice(), after)?;
             Ok(part)
         }
         Prog::Choice(branches) => {
-            let part = choice(alloc, basis, from, branches.as_slice())?;
+            let part = choice(alloc, basis, from, branches.as_slice(), after)?;
             Ok(part)
         }
         Prog::Star(_) => {

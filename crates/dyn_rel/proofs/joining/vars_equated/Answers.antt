@@ -1,4 +1,4 @@
-use Rattle.std.proofs.Common.{length, ap, ◌∙◌, arith}
+use Rattle.std.proofs.Common.{false, length, ap, ◌∙◌, arith, get_or}
 use Rattle.std.specs.Prelude.{slice_get}
 use Rattle.rel_core.specs.declared.relation.What.TheVariants.{Slot}
 use Rattle.dyn_rel.proofs.Same.{same_empty, same_more, same_said}
@@ -6,20 +6,20 @@ use Rattle.dyn_rel.proofs.Joints.{known_slot}
 use Rattle.dyn_rel.proofs.joining.vars_equated.Goals as goal
 
 pub loop-place-init : goal.loop-place-init
-loop-place-init c = λ p same. same_empty p c.args.kinds.now (λ x. Slot x) c.args.to.now c.args.from.now _ (c.from_vec-parts.ensures ∙ c.in_ok-with_capacity.ensures.items)
+loop-place-init c = λ p same.
+    same_empty p c.args.kinds.now (λ x. Slot x) (λ x. get_or c.args.set.now x false) c.args.to.now c.args.from.now _ (c.from_vec-parts.ensures ∙ c.in_ok-with_capacity.ensures.items)
 
 pub loop-place-preserved : goal.loop-place-preserved
 loop-place-preserved c = λ p same.
     let low = c.loop-place-test.true in
     let number = c.in_ok-variable.ensures in
-    same_more p c.args.kinds.now (λ x. Slot x) c.args.to.now c.args.from.now c.loop-place.place _ _ _ _ _ _ _ (ap Slot number)
-    c.index_at-new.ensures c.index_at-old.ensures c.into_inner.ensures c.in_ok-push.ensures.ok
+    same_more p c.args.kinds.now (λ x. Slot x) (λ x. get_or c.args.set.now x false) c.args.to.now c.args.from.now c.loop-place.place _ _ _ _ _ _ _ _
+    c.is_in-looked.ensures (ap Slot number) c.index_at-new.ensures c.index_at-old.ensures c.into_inner.ensures c.in_ok-push.ensures.ok
     (c.in_ok-same.ensures p (known_slot p c.args.kinds.now c.in_ok-variable.variable (omega (arith, low, number, same)))) (c.loop-place.invariant p same)
 
 pub returns : goal.returns
 returns c = λ p same.
     let high = c.loop-place-test.false in
     let low = c.loop-place.auto.place-end in
-    same_said p c.args.kinds.now (λ x. Slot x) c.args.to.now c.args.from.now c.loop-place.place _ _ c.in_ok-all.ensures.meaning (c.in_ok-all.ensures.sorted p
-    (slice_get c.args.kinds.now)) (length c.args.from.now)
-    (omega (arith, high, low)) (c.loop-place.invariant p same)
+    same_said p c.args.kinds.now (λ x. Slot x) (λ x. get_or c.args.set.now x false) c.args.to.now c.args.from.now c.loop-place.place _ _ c.in_ok-all.ensures.meaning
+    (c.in_ok-all.ensures.sorted p (slice_get c.args.kinds.now)) (length c.args.from.now) (omega (arith, high, low)) (c.loop-place.invariant p same)
