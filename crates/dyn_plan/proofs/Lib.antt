@@ -2,4 +2,6 @@ pub mod PlanForms
 pub mod Bridge
 pub mod LowForms
 pub mod Known
+pub mod Shown
+pub mod Operations
 mod Rows
