@@ -4,4 +4,6 @@ pub mod LowForms
 pub mod Known
 pub mod Shown
 pub mod Operations
+pub mod NullTests
+pub mod ExprShown
 mod Rows

@@ -56,7 +56,7 @@ numbers_defined k each Null y = tt
 numbers_defined k each (Obj o) y = tt
 numbers_defined k each (Flag b) y = tt
 
-same_defined : (x y : Value) → IsDefined (same x y)
+pub same_defined : (x y : Value) → IsDefined (same x y)
 same_defined Null Null = tt
 same_defined Null (Obj o) = tt
 same_defined Null (Num z) = tt
@@ -127,7 +127,7 @@ did_both p n t start b y x f m s a c seen k one two defined all first second mem
 
 -- ## operators
 
-same_false : (v : Value) → same v (Flag false) ≡ opposite v
+pub same_false : (v : Value) → same v (Flag false) ≡ opposite v
 same_false Null = refl
 same_false (Obj o) = refl
 same_false (Num z) = refl

@@ -204,15 +204,16 @@ shows_from t start b f r s Q R (Throws m) None low kept holds shows = absurd sho
 shows_from t start b f r s Q R Leaves (Some u) low kept holds shows = absurd shows
 shows_from t start b f r s Q R Leaves None low kept holds shows = tt
 
--- one part, and then another that is left out where the frame is done
-pub then_shows : (p : Posed) (n : ℕ) (t u : Bool) (start : ℕ) (f : Spots) (s : DynState) {A B : Type 0} (Q : A → Memory → DynState → Type 0) (R : B → Memory → DynState → Type 0) (e : Ends A) (k : A → Memory → Ends B) (first rest : List Plan)
+-- one part, and then another that is left out where the frame is done; the steps begin at w, and what is shown is shown
+-- from s
+pub then_shows : (p : Posed) (n : ℕ) (t u : Bool) (start : ℕ) (f : Spots) (s w : DynState) {A B : Type 0} (Q : A → Memory → DynState → Type 0) (R : B → Memory → DynState → Type 0) (e : Ends A) (k : A → Memory → Ends B) (first rest : List Plan)
     → (t ≡ true → Skips p n f rest)
     → (t ≡ true → u ≡ true)
-    → Shows t start f s Q e (go p n first s)
+    → Shows t start f s Q e (go p n first w)
     → ((a : A) (m : Memory) (r : DynState) → Q a m r → Shows u start f s R (k a m) (go p n rest r))
-    → Shows u start f s R (then_with e k) (go p n (first ++ rest) s)
-then_shows p n t u start f s {A} {B} Q R e k first rest skips more shows on =
-    subst (Shows u start f s R (then_with e k)) (sym (go_append p n first rest s)) (both e (go p n first s) shows)
+    → Shows u start f s R (then_with e k) (go p n (first ++ rest) w)
+then_shows p n t u start f s w {A} {B} Q R e k first rest skips more shows on =
+    subst (Shows u start f s R (then_with e k)) (sym (go_append p n first rest w)) (both e (go p n first w) shows)
   where
     both : (e : Ends A) (o : Option DynState) → Shows t start f s Q e o → Shows u start f s R (then_with e k) (option_and_then (go p n rest) o)
     both (Gives a m) (Some r) shows = on a m r shows
