@@ -6,4 +6,5 @@ pub mod Shown
 pub mod Operations
 pub mod NullTests
 pub mod ExprShown
+pub mod FormShown
 mod Rows
