@@ -7,4 +7,5 @@ pub mod Operations
 pub mod NullTests
 pub mod ExprShown
 pub mod FormShown
+pub mod CallShown
 mod Rows
