@@ -8,4 +8,5 @@ pub mod NullTests
 pub mod ExprShown
 pub mod FormShown
 pub mod CallShown
+pub mod ExprAll
 mod Rows
