@@ -9,4 +9,6 @@ pub mod ExprShown
 pub mod FormShown
 pub mod CallShown
 pub mod ExprAll
+pub mod StmtShown
+pub mod StmtForms
 mod Rows

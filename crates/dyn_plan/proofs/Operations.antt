@@ -47,7 +47,7 @@ if_defined false v = tt
 pub number_defined : (w : ℕ) (z : ℤ) → IsDefined (number w z)
 number_defined w z = if_defined (in_bits w z) (Num z)
 
-numbers_defined : (k : ℤ → ℤ → Seen) → ((x y : ℤ) → IsDefined (k x y)) → (x y : Value) → IsDefined (on_numbers k x y)
+pub numbers_defined : (k : ℤ → ℤ → Seen) → ((x y : ℤ) → IsDefined (k x y)) → (x y : Value) → IsDefined (on_numbers k x y)
 numbers_defined k each (Num x) (Num y) = each x y
 numbers_defined k each (Num x) Null = tt
 numbers_defined k each (Num x) (Obj o) = tt

@@ -99,6 +99,11 @@ abbrev pub Each : (ℕ → Type 0) → List ℕ → Type 0
 Each P [] = Unit {0}
 Each P (x ∷ xs) = P x × Each P xs
 
+-- each of these variables lies below all that come after it
+abbrev pub Rising : List ℕ → Type 0
+Rising [] = Unit {0}
+Rising (x ∷ xs) = Each (λ y. x < y) xs × Rising xs
+
 -- all variables of a frame
 pub record IsFrame (g : Ground) (start : ℕ) (f : Spots) : Type 0 where
   pub flags : HasFlags g start f
@@ -108,6 +113,7 @@ pub record IsFrame (g : Ground) (start : ℕ) (f : Spots) : Type 0 where
   pub result_apart : f.result ≡ f.done → ⊥
   pub result_apart_thrown : f.result ≡ f.thrown → ⊥
   pub locals : Each (λ y. (start ≤ y) × (y < f.base) × (y ≡ f.done → ⊥) × (y ≡ f.thrown → ⊥) × (y ≡ f.result → ⊥)) f.locals
+  pub rising : Rising f.locals
 
 -- ## what is shown
 
