@@ -283,16 +283,16 @@ then_some (Gives a m) k = refl
 then_some (Throws m) k = refl
 then_some Leaves k = refl
 
-first_of_three : (a b c : Bool) → a ≡ true → (a || b || c) ≡ true
+pub first_of_three : (a b c : Bool) → a ≡ true → (a || b || c) ≡ true
 first_of_three true b c is = refl
 first_of_three false b c is = absurd (false≢true is)
 
-second_of_three : (a b c : Bool) → b ≡ true → (a || b || c) ≡ true
+pub second_of_three : (a b c : Bool) → b ≡ true → (a || b || c) ≡ true
 second_of_three true b c is = refl
 second_of_three false true c is = refl
 second_of_three false false c is = absurd (false≢true is)
 
-third_of_three : (a b c : Bool) → c ≡ true → (a || b || c) ≡ true
+pub third_of_three : (a b c : Bool) → c ≡ true → (a || b || c) ≡ true
 third_of_three true b c is = refl
 third_of_three false true c is = refl
 third_of_three false false c is = is

@@ -11,4 +11,7 @@ pub mod CallShown
 pub mod ExprAll
 pub mod StmtShown
 pub mod StmtForms
+pub mod FieldForms
+pub mod Loops
+pub mod StmtAll
 mod Rows

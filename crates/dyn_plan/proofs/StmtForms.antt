@@ -45,7 +45,7 @@ use Rattle.dyn_plan.proofs.StmtShown.{exit_wanted, ResultIs, HasReturned, with_l
 
 -- ## blocks
 
-wanted_then_do : (w : Bool) (e : Exit) (k : List Value → Memory → Exit) → then_do (exit_wanted w e) (λ ls m. exit_wanted w (k ls m)) ≡ exit_wanted w (then_do e k)
+pub wanted_then_do : (w : Bool) (e : Exit) (k : List Value → Memory → Exit) → then_do (exit_wanted w e) (λ ls m. exit_wanted w (k ls m)) ≡ exit_wanted w (then_do e k)
 wanted_then_do true (Goes ls m) k = refl
 wanted_then_do false (Goes ls m) k = refl
 wanted_then_do true (Returns (Some v) m) k = refl
@@ -118,7 +118,7 @@ assign_shows p n g a d i k start f s fr m claim frame ready =
       (set_shows p n g x.throws start f fr h s q i x.place v frame now since given.value))
 
 -- one more or one less, at a number's variable
-step_shows : (p : Posed) (n : ℕ) (g : Ground) (t : Bool) (start b x : ℕ) (f : Spots) (m : Memory) (s : DynState) (up : Bool) (v : Value) → b ≤ x → Stands g s → Remembers m s → var_at s.vars x ≡ v
+pub step_shows : (p : Posed) (n : ℕ) (g : Ground) (t : Bool) (start b x : ℕ) (f : Spots) (m : Memory) (s : DynState) (up : Bool) (v : Value) → b ≤ x → Stands g s → Remembers m s → var_at s.vars x ≡ v
     → Shows t start f s (HasGiven b x s) (stepped p.scope.ints up v m) (go p n (l.Do (step_by_one g up x) ∷ []) s)
 step_shows p n g t start b x f m s true v above still memory is =
     did p n t start b x f m s (Sum x x (one_number g)) (operated op.Add p.scope.ints v (Num (pos 1))) (rw (is, still.one) refl) (numbers_defined _ (λ z w. number_defined p.scope.ints _) v (Num (pos 1))) above memory
