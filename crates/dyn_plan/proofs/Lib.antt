@@ -14,4 +14,5 @@ pub mod StmtForms
 pub mod FieldForms
 pub mod Loops
 pub mod StmtAll
+pub mod FrameRows
 mod Rows
