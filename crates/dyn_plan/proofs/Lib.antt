@@ -15,4 +15,5 @@ pub mod FieldForms
 pub mod Loops
 pub mod StmtAll
 pub mod FrameRows
+pub mod FrameShown
 mod Rows
