@@ -158,14 +158,14 @@ args_show p n g (a ∷ as_) (c ∷ cs) ks t start f b s u fr m claims frame abov
     (λ is. args_skip p n g as_ (later_kinds ks) (t || x.throws) f b2 (or_right t x.throws is))
     (λ is. args_throw g as_ (later_kinds ks) (t || x.throws) f b2 (or_right t x.throws is))
     (λ v h r given now.
-      shows_all rest.throws start f s (HasAll b2 rest.places r) (HasAll b (x.place ∷ rest.places) u) (λ vs. v ∷ vs) (in_order cs fr h) (go p n rest.steps r)
-      (λ vs j q has. record {
-        memory = has.memory;
-        values = rw (has.kept x.place near.1, given.value, has.values) refl;
-        kept = kept_then b b b2 u r q (omega arith) (omega arith) given.kept has.kept;
-      })
-      (args_show p n g as_ cs (later_kinds ks) (t || x.throws) start f b2 s r fr h claims.1 frame (omega arith)
-      (kept_then start start b s u r (omega arith) (let ordered = frame.flags.ordered in omega arith) kept given.kept) now))
+    shows_all rest.throws start f s (HasAll b2 rest.places r) (HasAll b (x.place ∷ rest.places) u) (λ vs. v ∷ vs) (in_order cs fr h) (go p n rest.steps r)
+    (λ vs j q has. record {
+      memory = has.memory;
+      values = rw (has.kept x.place near.1, given.value, has.values) refl;
+      kept = kept_then b b b2 u r q (omega arith) (omega arith) given.kept has.kept;
+    })
+    (args_show p n g as_ cs (later_kinds ks) (t || x.throws) start f b2 s r fr h claims.1 frame (omega arith)
+    (kept_then start start b s u r (omega arith) (let ordered = frame.flags.ordered in omega arith) kept given.kept) now))
 
 -- ## the method
 
@@ -194,12 +194,15 @@ value_shows p n g true t start b c y f s q inl e flags above far from kept shows
         let done_below = flags.done_below in
         let thrown_below = flags.thrown_below in
         let same = kept_set b y (var_at u.vars inl.place) u from in
-        subst (Shows t start f s (CallResult true b y s) (Throws m)) (sym (copied u)) (has.0, record {
-          memory = has.1.memory;
-          done = same f.done (omega arith) ∙ has.1.done;
-          thrown = same f.thrown (omega arith) ∙ has.1.thrown;
-          kept = λ z low. same z (omega arith) ∙ has.1.kept z low ∙ kept z (omega arith);
-        })
+        subst (Shows t start f s (CallResult true b y s) (Throws m)) (sym (copied u)) (
+          has.0,
+          record {
+            memory = has.1.memory;
+            done = same f.done (omega arith) ∙ has.1.done;
+            thrown = same f.thrown (omega arith) ∙ has.1.thrown;
+            kept = λ z low. same z (omega arith) ∙ has.1.kept z low ∙ kept z (omega arith);
+          },
+        )
     by (Throws m) None has = absurd has
     by Leaves (Some u) has = absurd has
     by Leaves None has = tt
@@ -262,10 +265,10 @@ entered_shows p n g run inline method class (Some x) (Some v) w t start f b c y 
     (λ a h u has. result_from w b y s r a h u kept has)
     (through_shows p n g t start c f class x l r fr.this v (CallResult w b y r) (λ o q. as_wanted w (run method (Obj o) vs q)) (with_value_at w y inl) may frame.flags (omega arith) ready.opened ready.this target.0 target.1
     (λ o q is memory later.
-      weaker inl.throws t start f r (CallResult w b y r) (as_wanted w (run method (Obj o) vs l)) (go p n (with_value_at w y inl) q) throws
-      (value_shows p n g w inl.throws start b c y f r q inl (run method (Obj o) vs l) frame.flags above far from (λ z low. later z (omega arith))
-      (inlines.shows method (Some x) xs w f c start q l (Obj o) vs frame.flags (omega arith) (open_on g start c f l l r q frame.flags (omega arith) ready.opened memory later)
-      (later x target.1 ∙ target.0 ∙ is, (o, refl)) (λ z same. subst (λ i. i < c) (some_same same) target.1) each (keep_values c r q xs each later ∙ values))))))
+    weaker inl.throws t start f r (CallResult w b y r) (as_wanted w (run method (Obj o) vs l)) (go p n (with_value_at w y inl) q) throws
+    (value_shows p n g w inl.throws start b c y f r q inl (run method (Obj o) vs l) frame.flags above far from (λ z low. later z (omega arith))
+    (inlines.shows method (Some x) xs w f c start q l (Obj o) vs frame.flags (omega arith) (open_on g start c f l l r q frame.flags (omega arith) ready.opened memory later)
+    (later x target.1 ∙ target.0 ∙ is, (o, refl)) (λ z same. subst (λ i. i < c) (some_same same) target.1) each (keep_values c r q xs each later ∙ values))))))
 entered_shows p n g run inline method class None (Some v) w t start f b c y s r fr l xs vs inlines frame above far from kept ready target each values may throws = absurd target
 entered_shows p n g run inline method class (Some x) None w t start f b c y s r fr l xs vs inlines frame above far from kept ready target each values may throws = absurd target
 
@@ -307,10 +310,10 @@ target_on (Some x) None b c s t low kept is = is
 args_then : (p : Posed) (n : ℕ) (g : Ground) (run : Run) (inline : Inline) (method : ℕ) (as_ : List Low) (cs : List Code) (target : Target) (tv : Option Value) (w : Bool) (start : ℕ) (f : Spots) (b : ℕ) (s u : DynState) (fr : Frame) (m : Memory)
     → Inlines p n g run inline → Claims p n g as_ cs → IsFrame g start f → f.base ≤ b → b ≤ target.free → IsKept b s u → IsReady g f fr m u → TargetIs target.place tv target.free u
     → Shows (with_target g inline method as_ w f b target).throws start f s (CallResult w b (b + slot g (kind_or (kind_of_result g method) kind.Int)) s)
-      (as_wanted w (then_with (in_order cs fr m) (λ vs l. entered run method tv vs l)))
-      (go p n ((arguments_low g as_ (kinds_of_params g method) target.throws f target.free).steps ++ guarded f (arguments_low g as_ (kinds_of_params g method) target.throws f target.free).throws
-      (entered_low g f (arguments_low g as_ (kinds_of_params g method) target.throws f target.free).free (class_of_method g method) target.place
-      (with_value_at w (b + slot g (kind_or (kind_of_result g method) kind.Int)) (inline method target.place (arguments_low g as_ (kinds_of_params g method) target.throws f target.free).places w f (arguments_low g as_ (kinds_of_params g method) target.throws f target.free).free)))) u)
+    (as_wanted w (then_with (in_order cs fr m) (λ vs l. entered run method tv vs l)))
+    (go p n ((arguments_low g as_ (kinds_of_params g method) target.throws f target.free).steps ++ guarded f (arguments_low g as_ (kinds_of_params g method) target.throws f target.free).throws
+    (entered_low g f (arguments_low g as_ (kinds_of_params g method) target.throws f target.free).free (class_of_method g method) target.place
+    (with_value_at w (b + slot g (kind_or (kind_of_result g method) kind.Int)) (inline method target.place (arguments_low g as_ (kinds_of_params g method) target.throws f target.free).places w f (arguments_low g as_ (kinds_of_params g method) target.throws f target.free).free)))) u)
 args_then p n g run inline method as_ cs target tv w start f b s u fr m inlines claims frame above far kept ready is =
     let args : Arguments = arguments_low g as_ (kinds_of_params g method) target.throws f target.free in
     let y : ℕ = b + slot g (kind_or (kind_of_result g method) kind.Int) in
@@ -325,11 +328,11 @@ args_then p n g run inline method as_ cs target tv w start f b s u fr m inlines 
     (guard_skips p n f args.throws body) (first_of_three args.throws (can_be_null f target.place) inl.throws)
     (args_show p n g as_ cs (kinds_of_params g method) target.throws start f target.free s u fr m claims frame (omega arith) (λ z below. kept z (omega arith)) ready)
     (λ vs l r has.
-      let now : IsReady g f fr l r = ready_on g start target.free f fr m l u r frame (omega arith) ready has.memory has.kept in
-      subst (Shows t start f s (CallResult w b y s) (as_wanted w (entered run method tv vs l))) (sym (guard_opens p n f args.throws body r now.opened.done))
-      (entered_shows p n g run inline method (class_of_method g method) target.place tv w t start f b args.free y s r fr l args.places vs inlines frame above (omega arith) (omega arith)
-      (kept_then b b target.free s u r (omega arith) far kept has.kept) now (target_on target.place tv target.free args.free u r farther has.kept is) near.1 has.values
-      (second_of_three args.throws (can_be_null f target.place) inl.throws) (third_of_three args.throws (can_be_null f target.place) inl.throws))))
+    let now : IsReady g f fr l r = ready_on g start target.free f fr m l u r frame (omega arith) ready has.memory has.kept in
+    subst (Shows t start f s (CallResult w b y s) (as_wanted w (entered run method tv vs l))) (sym (guard_opens p n f args.throws body r now.opened.done))
+    (entered_shows p n g run inline method (class_of_method g method) target.place tv w t start f b args.free y s r fr l args.places vs inlines frame above (omega arith) (omega arith)
+    (kept_then b b target.free s u r (omega arith) far kept has.kept) now (target_on target.place tv target.free args.free u r farther has.kept is) near.1 has.values
+    (second_of_three args.throws (can_be_null f target.place) inl.throws) (third_of_three args.throws (can_be_null f target.place) inl.throws))))
 
 -- the target, lowered
 abbrev pub TargetClaim : Posed → ℕ → Ground → Option Low → Option Code → Type 0
@@ -341,8 +344,8 @@ TargetClaim p n g (Some a) None = ⊥
 pub called_shows : (p : Posed) (n : ℕ) (g : Ground) (run : Run) (inline : Inline) (method : ℕ) (target : Option Low) (of : Option Code) (as_ : List Low) (cs : List Code) (w : Bool) (start : ℕ) (f : Spots) (b : ℕ) (s : DynState) (fr : Frame) (m : Memory)
     → Inlines p n g run inline → TargetClaim p n g target of → Claims p n g as_ cs → IsFrame g start f → f.base ≤ b → IsReady g f fr m s
     → Shows (with_target g inline method as_ w f b (target_low g target (class_of_method g method) f b)).throws start f s (CallResult w b (b + slot g (kind_or (kind_of_result g method) kind.Int)) s)
-      (as_wanted w (then_with (target_of of fr m) (λ this h. then_with (in_order cs fr h) (λ vs l. entered run method this vs l))))
-      (go p n (with_target g inline method as_ w f b (target_low g target (class_of_method g method) f b)).steps s)
+    (as_wanted w (then_with (target_of of fr m) (λ this h. then_with (in_order cs fr h) (λ vs l. entered run method this vs l))))
+    (go p n (with_target g inline method as_ w f b (target_low g target (class_of_method g method) f b)).steps s)
 called_shows p n g run inline method None None as_ cs w start f b s fr m inlines claim claims frame above ready =
     args_then p n g run inline method as_ cs (target_low g None (class_of_method g method) f b) None w start f b s s fr m inlines claims frame above (omega arith) (kept_same b s) ready tt
 called_shows p n g run inline method (Some a) (Some c) as_ cs w start f b s fr m inlines claim claims frame above ready =
@@ -361,9 +364,9 @@ called_shows p n g run inline method (Some a) (Some c) as_ cs w start f b s fr m
     (wanted_then w (c fr m) on ∙ ap (as_wanted w) (then_some (c fr m) (λ this h. then_with (in_order cs fr h) (λ vs l. entered run method this vs l))))
     (operand_then p n g a c false t start f k b s s fr m (CallResult w b y s) (λ v h. as_wanted w (on v h)) rest claim frame above (kept_same start s) ready
     (λ is. skips_both p n f args.steps (guarded f args.throws body) (args_skip p n g as_ (kinds_of_params g method) x.throws f target.free is)
-      (guard_skips p n f args.throws body (args_throw g as_ (kinds_of_params g method) x.throws f target.free is)))
+    (guard_skips p n f args.throws body (args_throw g as_ (kinds_of_params g method) x.throws f target.free is)))
     (λ is. first_of_three args.throws (can_be_null f target.place) inl.throws (args_throw g as_ (kinds_of_params g method) x.throws f target.free is))
     (λ v h u given now.
-      args_then p n g run inline method as_ cs target (Some v) w start f b s u fr h inlines claims frame above near.0 given.kept now (given.value, near.1)))
+    args_then p n g run inline method as_ cs target (Some v) w start f b s u fr h inlines claims frame above near.0 given.kept now (given.value, near.1)))
 called_shows p n g run inline method None (Some c) as_ cs w start f b s fr m inlines claim claims frame above ready = absurd claim
 called_shows p n g run inline method (Some a) None as_ cs w start f b s fr m inlines claim claims frame above ready = absurd claim

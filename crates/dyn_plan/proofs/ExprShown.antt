@@ -102,21 +102,21 @@ given_from b c x s u t v m low kept given = record { memory = given.memory; valu
 pub both_claim : (p : Posed) (n : ℕ) (g : Ground) (o : Op) (k : Kind) (a c : Low) (d e : Code) (start : ℕ) (f : Spots) (b : ℕ) (s : DynState) (fr : Frame) (m : Memory)
     → Claim p n g a d → Claim p n g c e → IsFrame g start f → f.base ≤ b → IsReady g f fr m s
     → Shows (after_both g o f b (a.low k f b) (c.low k f (behind g b (a.low k f b).place))).throws start f s (HasGiven b (b + slot g (kind_of_op o)) s)
-      (then_with (d fr m) (λ v h. then_with (e fr h) (λ w j. ends_as j (operated o p.scope.ints v w))))
-      (go p n (after_both g o f b (a.low k f b) (c.low k f (behind g b (a.low k f b).place))).steps s)
+    (then_with (d fr m) (λ v h. then_with (e fr h) (λ w j. ends_as j (operated o p.scope.ints v w))))
+    (go p n (after_both g o f b (a.low k f b) (c.low k f (behind g b (a.low k f b).place))).steps s)
 both_claim p n g o k a c d e start f b s fr m one two frame above ready =
     operand_then p n g a d false (x.throws || y.throws) start f k b s s fr m (HasGiven b r s) (λ v h. then_with (e fr h) (λ w j. ends_as j (operated o p.scope.ints v w))) (guarded f x.throws y.steps ++ last)
     one frame above (kept_same start s) ready
     (λ is. skips_both p n f (guarded f x.throws y.steps) last (guard_skips p n f x.throws y.steps is) (guard_skips p n f (x.throws || y.throws) act (or_left x.throws y.throws is)))
     (or_left x.throws y.throws)
     (λ v h u given now.
-      operand_then p n g c e x.throws (x.throws || y.throws) start f k b2 s u fr h (HasGiven b r s) (λ w j. ends_as j (operated o p.scope.ints v w)) last
-      two frame base_further (λ z below. given.kept z (omega (arith, base_above))) now
-      (λ is. guard_skips p n f (x.throws || y.throws) act (or_right x.throws y.throws is))
-      (or_right x.throws y.throws)
-      (λ w j q last_given ending. at v w j q
-        (λ z low. last_given.kept z (let far = x_behind.0 in omega arith) ∙ given.kept z low)
-        (last_given.kept x.place x_behind.1 ∙ given.value) last_given.value ending))
+    operand_then p n g c e x.throws (x.throws || y.throws) start f k b2 s u fr h (HasGiven b r s) (λ w j. ends_as j (operated o p.scope.ints v w)) last
+    two frame base_further (λ z below. given.kept z (omega (arith, base_above))) now
+    (λ is. guard_skips p n f (x.throws || y.throws) act (or_right x.throws y.throws is))
+    (or_right x.throws y.throws)
+    (λ w j q last_given ending. at v w j q
+    (λ z low. last_given.kept z (let far = x_behind.0 in omega arith) ∙ given.kept z low)
+    (last_given.kept x.place x_behind.1 ∙ given.value) last_given.value ending))
   where
     x : Lowered
     x = a.low k f b

@@ -53,8 +53,8 @@ put_shows : (p : Posed) (n : ℕ) (t : Bool) (start b x i y o : ℕ) (f : Spots)
 put_shows p n t start b x i y o f w m s memory object value =
     subst (Shows t start f s (Wrote b s) (write p i o w m))
     (sym (go_one p n (l.Do (Write x i y)) s ∙ next_do p n (Write x i y) s
-      ∙ ap (λ v. option_map (λ h. record s { objects = h }) (put_through p.unit.classes s.objects i v (var_at s.vars y))) object
-      ∙ ap (λ v. option_map (λ h. record s { objects = h }) (put p.unit.classes s.objects i o v)) value))
+    ∙ ap (λ v. option_map (λ h. record s { objects = h }) (put_through p.unit.classes s.objects i v (var_at s.vars y))) object
+    ∙ ap (λ v. option_map (λ h. record s { objects = h }) (put p.unit.classes s.objects i o v)) value))
     (subst (λ h. Shows t start f s (Wrote b s) (with_heap tt (put p.unit.classes h i o w) m) (option_map (λ h. record s { objects = h }) (put p.unit.classes s.objects i o w))) memory (by (put p.unit.classes s.objects i o w)))
   where
     by : (c : Option Heap) → Shows t start f s (Wrote b s) (with_heap tt c m) (option_map (λ h. record s { objects = h }) c)
@@ -68,8 +68,8 @@ goes_on g start b f fr m l s t frame above ready memory kept = (ready_on g start
 pub write_shows : (p : Posed) (n : ℕ) (g : Ground) (a c : Low) (d e : Code) (i : ℕ) (start : ℕ) (f : Spots) (s : DynState) (fr : Frame) (m : Memory)
     → Claim p n g a d → Claim p n g c e → IsFrame g start f → IsReady g f fr m s
     → Ended g (write_low g i f (a.low (kind.Ref (class_of_field g i)) f f.base) (c.low (kind_of_field g i) f (behind g f.base (a.low (kind.Ref (class_of_field g i)) f f.base).place))).throws false start f fr s
-      (exit_wanted f.wanted (after (d fr m) (λ v h. after (e fr h) (λ u j. after (on_object (λ o. write p i o u) v j) (λ z. Goes fr.locals)))))
-      (go p n (write_low g i f (a.low (kind.Ref (class_of_field g i)) f f.base) (c.low (kind_of_field g i) f (behind g f.base (a.low (kind.Ref (class_of_field g i)) f f.base).place))).steps s)
+    (exit_wanted f.wanted (after (d fr m) (λ v h. after (e fr h) (λ u j. after (on_object (λ o. write p i o u) v j) (λ z. Goes fr.locals)))))
+    (go p n (write_low g i f (a.low (kind.Ref (class_of_field g i)) f f.base) (c.low (kind_of_field g i) f (behind g f.base (a.low (kind.Ref (class_of_field g i)) f f.base).place))).steps s)
 write_shows p n g a c d e i start f s fr m one two frame ready =
     let k : Kind = kind.Ref (class_of_field g i) in
     let x : Lowered = a.low k f f.base in
@@ -88,26 +88,26 @@ write_shows p n g a c d e i start f s fr m one two frame ready =
     (λ is. skips_both p n f (guarded f x.throws y.steps) last (guard_skips p n f x.throws y.steps is) (guard_skips p n f (x.throws || y.throws) body (or_left x.throws y.throws is)))
     (first_of_three x.throws y.throws (not (is_receiver f x.place)))
     (λ v h u given now since.
-      operand_does p n g c e x.throws t false start f (kind_of_field g i) b2 s u fr h (λ w j. after (on_object (λ o. write p i o w) v j) (λ z. Goes fr.locals)) last two frame (omega arith) since now
-      (λ is. guard_skips p n f (x.throws || y.throws) body (or_right x.throws y.throws is)) (second_of_three x.throws y.throws (not (is_receiver f x.place)))
-      (λ w j q again later after_both.
-        subst (Ended g t false start f fr s (exit_wanted f.wanted (after (on_object (λ o. write p i o w) v j) (λ z. Goes fr.locals)))) (sym (guard_opens p n f (x.throws || y.throws) body q later.opened.done))
-        (ended_from g t false start f fr s q (exit_wanted f.wanted (after (on_object (λ o. write p i o w) v j) (λ z. Goes fr.locals))) (go p n body q) after_both
-        (ended_all g t start f fr q (Wrote b3 q) (on_object (λ o. write p i o w) v j) (go p n body q) (λ z l r wrote. goes_on g start b3 f fr j l q r frame (omega arith) later wrote.0 wrote.1)
-        (through_shows p n g t start b3 f (class_of_field g i) x.place j q fr.this v (Wrote b3 q) (λ o. write p i o w) act (third_of_three x.throws y.throws (not (is_receiver f x.place))) frame.flags (omega arith) later.opened later.this
-        (again.kept x.place x_behind.1 ∙ given.value) (let below = x_behind.1 in omega arith)
-        (λ o r is memory kept.
-          shows_from t start b3 f q r (Wrote b3 r) (Wrote b3 q) (write p i o w j) (go p n act r) (let ordered = frame.flags.ordered in omega arith) kept
-          (λ z l r2 wrote. (wrote.0, kept_then b3 b3 b3 q r r2 (omega arith) (omega arith) kept wrote.1))
-          (put_shows p n t start b3 x.place i y.place o f w j r memory
-          (kept x.place (let below = x_behind.1 in omega arith) ∙ again.kept x.place x_behind.1 ∙ given.value ∙ is)
-          (kept y.place y_behind.1 ∙ again.value))))))))
+    operand_does p n g c e x.throws t false start f (kind_of_field g i) b2 s u fr h (λ w j. after (on_object (λ o. write p i o w) v j) (λ z. Goes fr.locals)) last two frame (omega arith) since now
+    (λ is. guard_skips p n f (x.throws || y.throws) body (or_right x.throws y.throws is)) (second_of_three x.throws y.throws (not (is_receiver f x.place)))
+    (λ w j q again later after_both.
+    subst (Ended g t false start f fr s (exit_wanted f.wanted (after (on_object (λ o. write p i o w) v j) (λ z. Goes fr.locals)))) (sym (guard_opens p n f (x.throws || y.throws) body q later.opened.done))
+    (ended_from g t false start f fr s q (exit_wanted f.wanted (after (on_object (λ o. write p i o w) v j) (λ z. Goes fr.locals))) (go p n body q) after_both
+    (ended_all g t start f fr q (Wrote b3 q) (on_object (λ o. write p i o w) v j) (go p n body q) (λ z l r wrote. goes_on g start b3 f fr j l q r frame (omega arith) later wrote.0 wrote.1)
+    (through_shows p n g t start b3 f (class_of_field g i) x.place j q fr.this v (Wrote b3 q) (λ o. write p i o w) act (third_of_three x.throws y.throws (not (is_receiver f x.place))) frame.flags (omega arith) later.opened later.this
+    (again.kept x.place x_behind.1 ∙ given.value) (let below = x_behind.1 in omega arith)
+    (λ o r is memory kept.
+    shows_from t start b3 f q r (Wrote b3 r) (Wrote b3 q) (write p i o w j) (go p n act r) (let ordered = frame.flags.ordered in omega arith) kept
+    (λ z l r2 wrote. (wrote.0, kept_then b3 b3 b3 q r r2 (omega arith) (omega arith) kept wrote.1))
+    (put_shows p n t start b3 x.place i y.place o f w j r memory
+    (kept x.place (let below = x_behind.1 in omega arith) ∙ again.kept x.place x_behind.1 ∙ given.value ∙ is)
+    (kept y.place y_behind.1 ∙ again.value))))))))
 
 pub step_field_shows : (p : Posed) (n : ℕ) (g : Ground) (a : Low) (d : Code) (i : ℕ) (up : Bool) (start : ℕ) (f : Spots) (s : DynState) (fr : Frame) (m : Memory)
     → Claim p n g a d → IsFrame g start f → IsReady g f fr m s
     → Ended g (step_field_low g i up f (a.low (kind.Ref (class_of_field g i)) f f.base) (behind g f.base (a.low (kind.Ref (class_of_field g i)) f f.base).place)).throws false start f fr s
-      (exit_wanted f.wanted (after (d fr m) (λ v h. after (on_object (step_field p i up) v h) (λ z. Goes fr.locals))))
-      (go p n (step_field_low g i up f (a.low (kind.Ref (class_of_field g i)) f f.base) (behind g f.base (a.low (kind.Ref (class_of_field g i)) f f.base).place)).steps s)
+    (exit_wanted f.wanted (after (d fr m) (λ v h. after (on_object (step_field p i up) v h) (λ z. Goes fr.locals))))
+    (go p n (step_field_low g i up f (a.low (kind.Ref (class_of_field g i)) f f.base) (behind g f.base (a.low (kind.Ref (class_of_field g i)) f f.base).place)).steps s)
 step_field_shows p n g a d i up start f s fr m claim frame ready =
     let k : Kind = kind.Ref (class_of_field g i) in
     let x : Lowered = a.low k f f.base in
@@ -120,15 +120,15 @@ step_field_shows p n g a d i up start f s fr m claim frame ready =
     operand_does p n g a d false t false start f k f.base s s fr m (λ v h. after (on_object (step_field p i up) v h) (λ z. Goes fr.locals)) (guarded f x.throws body) claim frame (omega arith) (kept_same start s) ready
     (guard_skips p n f x.throws body) (or_left x.throws (not (is_receiver f x.place)))
     (λ v h q given now since.
-      subst (Ended g t false start f fr s (exit_wanted f.wanted (after (on_object (step_field p i up) v h) (λ z. Goes fr.locals)))) (sym (guard_opens p n f x.throws body q now.opened.done))
-      (ended_from g t false start f fr s q (exit_wanted f.wanted (after (on_object (step_field p i up) v h) (λ z. Goes fr.locals))) (go p n body q) since
-      (ended_all g t start f fr q (Wrote r q) (on_object (step_field p i up) v h) (go p n body q) (λ z l j wrote. goes_on g start r f fr h l q j frame (omega arith) now wrote.0 wrote.1)
-      (through_shows p n g t start r f (class_of_field g i) x.place h q fr.this v (Wrote r q) (step_field p i up) act (or_right x.throws (not (is_receiver f x.place))) frame.flags (omega arith) now.opened now.this given.value x_behind.1
-      (λ o w is memory kept.
-        shows_from t start r f q w (Wrote r w) (Wrote r q) (step_field p i up o h) (go p n act w) (let ordered = frame.flags.ordered in omega arith) kept
-        (λ z l j wrote. (wrote.0, kept_then r r r q w j (omega arith) (omega arith) kept wrote.1))
-        (stepped_field start f r x.place o h w t frame far memory (kept x.place x_behind.1 ∙ given.value ∙ is) x_behind.1
-        (let ordered = frame.flags.ordered in let still = frame.flags.still in stands_on g r q w (omega arith) kept now.opened.still)))))))
+    subst (Ended g t false start f fr s (exit_wanted f.wanted (after (on_object (step_field p i up) v h) (λ z. Goes fr.locals)))) (sym (guard_opens p n f x.throws body q now.opened.done))
+    (ended_from g t false start f fr s q (exit_wanted f.wanted (after (on_object (step_field p i up) v h) (λ z. Goes fr.locals))) (go p n body q) since
+    (ended_all g t start f fr q (Wrote r q) (on_object (step_field p i up) v h) (go p n body q) (λ z l j wrote. goes_on g start r f fr h l q j frame (omega arith) now wrote.0 wrote.1)
+    (through_shows p n g t start r f (class_of_field g i) x.place h q fr.this v (Wrote r q) (step_field p i up) act (or_right x.throws (not (is_receiver f x.place))) frame.flags (omega arith) now.opened now.this given.value x_behind.1
+    (λ o w is memory kept.
+    shows_from t start r f q w (Wrote r w) (Wrote r q) (step_field p i up o h) (go p n act w) (let ordered = frame.flags.ordered in omega arith) kept
+    (λ z l j wrote. (wrote.0, kept_then r r r q w j (omega arith) (omega arith) kept wrote.1))
+    (stepped_field start f r x.place o h w t frame far memory (kept x.place x_behind.1 ∙ given.value ∙ is) x_behind.1
+    (let ordered = frame.flags.ordered in let still = frame.flags.still in stands_on g r q w (omega arith) kept now.opened.still)))))))
   where
     stepped_field : (start : ℕ) (f : Spots) (r x o : ℕ) (h : Memory) (w : DynState) (t : Bool) → IsFrame g start f → f.base ≤ r → Remembers h w → var_at w.vars x ≡ Obj o → x < r → Stands g w
         → Shows t start f w (Wrote r w) (step_field p i up o h) (go p n (l.Do (Read r x i) ∷ l.Do (step_by_one g up r) ∷ l.Do (Write x i r) ∷ []) w)
@@ -137,24 +137,24 @@ step_field_shows p n g a d i up start f s fr m claim frame ready =
         (λ is. absurd (false≢true is)) (λ is. absurd (false≢true is))
         (field_shows p n false start r r x i o f h w (omega arith) memory object)
         (λ v j q given.
-          let low : start ≤ r = let ordered = frame.flags.ordered in omega arith in
-          let q_still : Stands g q = let far = frame.flags.still in stands_on g r w q (omega arith) given.kept still in
-          then_shows p n false t start f w q (HasGiven r r q) (Wrote r w) (stepped p.scope.ints up v j) (λ u l. write p i o u l) (l.Do (step_by_one g up r) ∷ []) (l.Do (Write x i r) ∷ [])
-          (λ is. absurd (false≢true is)) (λ is. absurd (false≢true is))
-          (shows_from false start r f w q (HasGiven r r q) (HasGiven r r q) (stepped p.scope.ints up v j) (go p n (l.Do (step_by_one g up r) ∷ []) q) low given.kept (λ a b c has. has)
-          (step_shows p n g false start r r f j q up v (omega arith) q_still given.memory given.value))
-          (λ u j2 z again.
-            let kept : IsKept r w z = kept_then r r r w q z (omega arith) (omega arith) given.kept again.kept in
-            shows_from t start r f w z (Wrote r z) (Wrote r w) (write p i o u j2) (go p n (l.Do (Write x i r) ∷ []) z) low kept
-            (λ a b c wrote. (wrote.0, kept_then r r r w z c (omega arith) (omega arith) kept wrote.1))
-            (put_shows p n t start r x i r o f u j2 z again.memory (kept x below ∙ object) again.value)))
+        let low : start ≤ r = let ordered = frame.flags.ordered in omega arith in
+        let q_still : Stands g q = let far = frame.flags.still in stands_on g r w q (omega arith) given.kept still in
+        then_shows p n false t start f w q (HasGiven r r q) (Wrote r w) (stepped p.scope.ints up v j) (λ u l. write p i o u l) (l.Do (step_by_one g up r) ∷ []) (l.Do (Write x i r) ∷ [])
+        (λ is. absurd (false≢true is)) (λ is. absurd (false≢true is))
+        (shows_from false start r f w q (HasGiven r r q) (HasGiven r r q) (stepped p.scope.ints up v j) (go p n (l.Do (step_by_one g up r) ∷ []) q) low given.kept (λ a b c has. has)
+        (step_shows p n g false start r r f j q up v (omega arith) q_still given.memory given.value))
+        (λ u j2 z again.
+        let kept : IsKept r w z = kept_then r r r w q z (omega arith) (omega arith) given.kept again.kept in
+        shows_from t start r f w z (Wrote r z) (Wrote r w) (write p i o u j2) (go p n (l.Do (Write x i r) ∷ []) z) low kept
+        (λ a b c wrote. (wrote.0, kept_then r r r w z c (omega arith) (omega arith) kept wrote.1))
+        (put_shows p n t start r x i r o f u j2 z again.memory (kept x below ∙ object) again.value)))
 
 -- ## choices
 
 pub if_shows : (p : Posed) (n : ℕ) (g : Ground) (a : Low) (d : Code) (first second : Lay) (c e : Body) (start : ℕ) (f : Spots) (s : DynState) (fr : Frame) (m : Memory)
     → Claim p n g a d → StmtClaim p n g first c → StmtClaim p n g second e → IsFrame g start f → IsReady g f fr m s
     → Ended g (if_low f (a.low kind.Flag f f.base) (first f) (second f)).throws (if_low f (a.low kind.Flag f f.base) (first f) (second f)).returns start f fr s
-      (exit_wanted f.wanted (after_test (d fr m) (λ b h. if b then c fr h else e fr h))) (go p n (if_low f (a.low kind.Flag f f.base) (first f) (second f)).steps s)
+    (exit_wanted f.wanted (after_test (d fr m) (λ b h. if b then c fr h else e fr h))) (go p n (if_low f (a.low kind.Flag f f.base) (first f) (second f)).steps s)
 if_shows p n g a d first second c e start f s fr m claim one two frame ready =
     let x : Lowered = a.low kind.Flag f f.base in
     let t : Bool = x.throws || (first f).throws || (second f).throws in
@@ -163,9 +163,9 @@ if_shows p n g a d first second c e start f s fr m claim one two frame ready =
     operand_does p n g a d false t r start f kind.Flag f.base s s fr m (on_branch (λ b h. if b then c fr h else e fr h)) (guarded f x.throws body) claim frame (omega arith) (kept_same start s) ready
     (guard_skips p n f x.throws body) (first_of_three x.throws (first f).throws (second f).throws)
     (λ v h q given now since.
-      subst (Ended g t r start f fr s (exit_wanted f.wanted (on_branch (λ b h. if b then c fr h else e fr h) v h))) (sym (guard_opens p n f x.throws body q now.opened.done
-        ∙ go_one p n (l.If x.place (first f).steps (second f).steps) q ∙ next_if p n x.place (first f).steps (second f).steps q ∙ ap (λ z. by_flag z (go p n (first f).steps q) (go p n (second f).steps q)) given.value))
-      (by v h q now since))
+    subst (Ended g t r start f fr s (exit_wanted f.wanted (on_branch (λ b h. if b then c fr h else e fr h) v h))) (sym (guard_opens p n f x.throws body q now.opened.done
+    ∙ go_one p n (l.If x.place (first f).steps (second f).steps) q ∙ next_if p n x.place (first f).steps (second f).steps q ∙ ap (λ z. by_flag z (go p n (first f).steps q) (go p n (second f).steps q)) given.value))
+    (by v h q now since))
   where
     by : (v : Value) (h : Memory) (q : DynState) → IsReady g f fr h q → IsKept start s q
         → Ended g ((a.low kind.Flag f f.base).throws || (first f).throws || (second f).throws) ((first f).returns || (second f).returns) start f fr s (exit_wanted f.wanted (on_branch (λ b h. if b then c fr h else e fr h) v h)) (by_flag v (go p n (first f).steps q) (go p n (second f).steps q))
@@ -187,13 +187,16 @@ if_shows p n g a d first second c e start f s fr m claim one two frame ready =
 done_shows : (p : Posed) (n : ℕ) (g : Ground) (start : ℕ) (f : Spots) (fr : Frame) (s q : DynState) (v : Option Value) (m : Memory) → IsFrame g start f → Remembers m q → var_at q.vars f.thrown ≡ Flag false → ResultIs f.result v q → IsKept start s q
     → Ended g false true start f fr s (Returns v m) (go p n (set_done f) q)
 done_shows p n g start f fr s q v m frame memory thrown result kept =
-    subst (Ended g false true start f fr s (Returns v m)) (sym (go_do p n (Const f.done (Flag true)) [] q)) (refl, record {
-      memory = memory;
-      done = var_set q.vars f.done (Flag true);
-      thrown = var_apart q.vars f.done (Flag true) f.thrown (λ same. frame.flags.apart (sym same)) ∙ thrown;
-      result = by v result;
-      kept = λ z low. kept_set start f.done (Flag true) q frame.flags.done_above z low ∙ kept z low;
-    })
+    subst (Ended g false true start f fr s (Returns v m)) (sym (go_do p n (Const f.done (Flag true)) [] q)) (
+      refl,
+      record {
+        memory = memory;
+        done = var_set q.vars f.done (Flag true);
+        thrown = var_apart q.vars f.done (Flag true) f.thrown (λ same. frame.flags.apart (sym same)) ∙ thrown;
+        result = by v result;
+        kept = λ z low. kept_set start f.done (Flag true) q frame.flags.done_above z low ∙ kept z low;
+      },
+    )
   where
     by : (v : Option Value) → ResultIs f.result v q → ResultIs f.result v (set f.done (Flag true) q)
     by (Some v) is = var_apart q.vars f.done (Flag true) f.result frame.result_apart ∙ is
@@ -220,14 +223,14 @@ return_shows p n g a d k start f s fr m claim frame ready =
     operand_does p n g a d false x.throws true start f k f.base s s fr m (λ v h. Returns (Some v) h) (guarded f x.throws body) claim frame (omega arith) (kept_same start s) ready
     (guard_skips p n f x.throws body) (λ t. t)
     (λ v h q given now since.
-      let last : DynState = set f.result (var_at q.vars x.place) q in
-      subst (λ z. Ended g x.throws true start f fr s z (go p n (guarded f x.throws body) q)) (sym (wanted_value f.wanted v h))
-      (subst (Ended g x.throws true start f fr s (Returns (Some v) h)) (sym (guard_opens p n f x.throws body q now.opened.done ∙ go_do p n (Copy f.result x.place) (set_done f) q))
-      (ended_weaker g false true x.throws true start f fr s (Returns (Some v) h) (go p n (set_done f) last) (λ is. absurd (false≢true is)) (λ t. t)
-      (done_shows p n g start f fr s last (Some v) h frame now.opened.memory
-      (var_apart q.vars f.result (var_at q.vars x.place) f.thrown (λ same. frame.result_apart_thrown (sym same)) ∙ now.opened.thrown)
-      (var_set q.vars f.result (var_at q.vars x.place) ∙ given.value)
-      (λ z low. kept_set start f.result (var_at q.vars x.place) q frame.result_above z low ∙ since z low)))))
+    let last : DynState = set f.result (var_at q.vars x.place) q in
+    subst (λ z. Ended g x.throws true start f fr s z (go p n (guarded f x.throws body) q)) (sym (wanted_value f.wanted v h))
+    (subst (Ended g x.throws true start f fr s (Returns (Some v) h)) (sym (guard_opens p n f x.throws body q now.opened.done ∙ go_do p n (Copy f.result x.place) (set_done f) q))
+    (ended_weaker g false true x.throws true start f fr s (Returns (Some v) h) (go p n (set_done f) last) (λ is. absurd (false≢true is)) (λ t. t)
+    (done_shows p n g start f fr s last (Some v) h frame now.opened.memory
+    (var_apart q.vars f.result (var_at q.vars x.place) f.thrown (λ same. frame.result_apart_thrown (sym same)) ∙ now.opened.thrown)
+    (var_set q.vars f.result (var_at q.vars x.place) ∙ given.value)
+    (λ z low. kept_set start f.result (var_at q.vars x.place) q frame.result_above z low ∙ since z low)))))
 
 -- ## calls
 

@@ -104,10 +104,10 @@ one_shows p n g k a d r act seen start f b s fr m claim frame above ready far de
     operand_then p n g a d false x.throws start f k b s s fr m (HasGiven b r s) (λ v h. ends_as h (seen v)) (guarded f x.throws (l.Do act ∷ []))
     claim frame above (kept_same start s) ready (guard_skips p n f x.throws (l.Do act ∷ [])) (λ t. t)
     (λ v h u given now.
-      subst (Shows x.throws start f s (HasGiven b r s) (ends_as h (seen v))) (sym (guard_opens p n f x.throws (l.Do act ∷ []) u now.opened.done))
-      (shows_from x.throws start b f s u (HasGiven b r u) (HasGiven b r s) (ends_as h (seen v)) (go p n (l.Do act ∷ []) u) (let ordered = frame.flags.ordered in omega arith) given.kept
-      (λ w i t last. given_from b b r s u t w i (omega arith) given.kept last)
-      (did p n x.throws start b r f h u act (seen v) (is u now.opened.still ∙ ap (λ w. with_given r u (seen w)) given.value) (defined v) far now.opened.memory)))
+    subst (Shows x.throws start f s (HasGiven b r s) (ends_as h (seen v))) (sym (guard_opens p n f x.throws (l.Do act ∷ []) u now.opened.done))
+    (shows_from x.throws start b f s u (HasGiven b r u) (HasGiven b r s) (ends_as h (seen v)) (go p n (l.Do act ∷ []) u) (let ordered = frame.flags.ordered in omega arith) given.kept
+    (λ w i t last. given_from b b r s u t w i (omega arith) given.kept last)
+    (did p n x.throws start b r f h u act (seen v) (is u now.opened.still ∙ ap (λ w. with_given r u (seen w)) given.value) (defined v) far now.opened.memory)))
   where
     x : Lowered
     x = a.low k f b
@@ -133,20 +133,20 @@ field_shows p n t start b r x i o f m s above memory is =
 pub read_shows : (p : Posed) (n : ℕ) (g : Ground) (a : Low) (d : Code) (i start : ℕ) (f : Spots) (b : ℕ) (s : DynState) (fr : Frame) (m : Memory)
     → Claim p n g a d → IsFrame g start f → f.base ≤ b → IsReady g f fr m s
     → Shows (read_low g i f b (a.low (kind.Ref (class_of_field g i)) f b)).throws start f s (HasGiven b (b + slot g (kind_of_field g i)) s)
-      (then_with (d fr m) (on_object (read p i))) (go p n (read_low g i f b (a.low (kind.Ref (class_of_field g i)) f b)).steps s)
+    (then_with (d fr m) (on_object (read p i))) (go p n (read_low g i f b (a.low (kind.Ref (class_of_field g i)) f b)).steps s)
 read_shows p n g a d i start f b s fr m claim frame above ready =
     operand_then p n g a d false t start f k b s s fr m (HasGiven b r s) (on_object (read p i)) (guarded f x.throws rest)
     claim frame above (kept_same start s) ready (guard_skips p n f x.throws rest) (or_left x.throws (not (is_receiver f x.place)))
     (λ v h u given now.
-      subst (Shows t start f s (HasGiven b r s) (on_object (read p i) v h)) (sym (guard_opens p n f x.throws rest u now.opened.done))
-      (shows_from t start b f s u (HasGiven b r u) (HasGiven b r s) (on_object (read p i) v h) (go p n rest u) (let ordered = frame.flags.ordered in omega arith) given.kept
-      (λ w j q last. given_from b b r s u q w j (omega arith) given.kept last)
-      (through_shows p n g t start b2 f (class_of_field g i) x.place h u fr.this v (HasGiven b r u) (read p i) act (or_right x.throws (not (is_receiver f x.place)))
-      frame.flags (let far = x_behind.0 in omega arith) now.opened now.this given.value x_behind.1
-      (λ o q is memory kept.
-        shows_from t start b2 f u q (HasGiven b r q) (HasGiven b r u) (read p i o h) (go p n act q) (let far = x_behind.0 in let ordered = frame.flags.ordered in omega arith) kept
-        (λ w j z last. given_from b b r u q z w j (omega arith) (λ y low. kept y (let far = x_behind.0 in omega arith)) last)
-        (field_shows p n t start b r x.place i o f h q (omega arith) memory (kept x.place x_behind.1 ∙ given.value ∙ is))))))
+    subst (Shows t start f s (HasGiven b r s) (on_object (read p i) v h)) (sym (guard_opens p n f x.throws rest u now.opened.done))
+    (shows_from t start b f s u (HasGiven b r u) (HasGiven b r s) (on_object (read p i) v h) (go p n rest u) (let ordered = frame.flags.ordered in omega arith) given.kept
+    (λ w j q last. given_from b b r s u q w j (omega arith) given.kept last)
+    (through_shows p n g t start b2 f (class_of_field g i) x.place h u fr.this v (HasGiven b r u) (read p i) act (or_right x.throws (not (is_receiver f x.place)))
+    frame.flags (let far = x_behind.0 in omega arith) now.opened now.this given.value x_behind.1
+    (λ o q is memory kept.
+    shows_from t start b2 f u q (HasGiven b r q) (HasGiven b r u) (read p i o h) (go p n act q) (let far = x_behind.0 in let ordered = frame.flags.ordered in omega arith) kept
+    (λ w j z last. given_from b b r u q z w j (omega arith) (λ y low. kept y (let far = x_behind.0 in omega arith)) last)
+    (field_shows p n t start b r x.place i o f h q (omega arith) memory (kept x.place x_behind.1 ∙ given.value ∙ is))))))
   where
     k : Kind
     k = kind.Ref (class_of_field g i)
@@ -213,12 +213,12 @@ truth_shows p n g k c e start f b s u fr m claim frame above kept ready =
     operand_then p n g c e false y.throws start f k b s u fr m (HasGiven b (b + 1) s) (on_test (λ b n. Gives (Flag b) n)) (guarded f y.throws act)
     claim frame above (λ z low. kept z (let ordered = frame.flags.ordered in omega arith)) ready (guard_skips p n f y.throws act) (λ t. t)
     (λ v h q given now.
-      subst (Shows y.throws start f s (HasGiven b (b + 1) s) (on_test (λ b n. Gives (Flag b) n) v h)) (sym (guard_opens p n f y.throws act q now.opened.done))
-      (subst (λ z. Shows y.throws start f s (HasGiven b (b + 1) s) z (go p n act q)) (sym (as_flag_is v h))
-      (shows_from y.throws start b f s q (HasGiven b (b + 1) q) (HasGiven b (b + 1) s) (ends_as h (same v (Flag true))) (go p n act q) (let ordered = frame.flags.ordered in omega arith)
-      (kept_then b b b s u q (omega arith) (omega arith) kept given.kept)
-      (λ w j z last. given_from b b (b + 1) s q z w j (omega arith) (kept_then b b b s u q (omega arith) (omega arith) kept given.kept) last)
-      (did p n y.throws start b (b + 1) f h q (Same (b + 1) y.place (flag_of g true)) (same v (Flag true)) (rw (given.value, now.opened.still.flags true) refl) (same_defined v (Flag true)) (omega arith) now.opened.memory))))
+    subst (Shows y.throws start f s (HasGiven b (b + 1) s) (on_test (λ b n. Gives (Flag b) n) v h)) (sym (guard_opens p n f y.throws act q now.opened.done))
+    (subst (λ z. Shows y.throws start f s (HasGiven b (b + 1) s) z (go p n act q)) (sym (as_flag_is v h))
+    (shows_from y.throws start b f s q (HasGiven b (b + 1) q) (HasGiven b (b + 1) s) (ends_as h (same v (Flag true))) (go p n act q) (let ordered = frame.flags.ordered in omega arith)
+    (kept_then b b b s u q (omega arith) (omega arith) kept given.kept)
+    (λ w j z last. given_from b b (b + 1) s q z w j (omega arith) (kept_then b b b s u q (omega arith) (omega arith) kept given.kept) last)
+    (did p n y.throws start b (b + 1) f h q (Same (b + 1) y.place (flag_of g true)) (same v (Flag true)) (rw (given.value, now.opened.still.flags true) refl) (same_defined v (Flag true)) (omega arith) now.opened.memory))))
   where
     y : Lowered
     y = c.low k f b
@@ -236,10 +236,10 @@ short_shows p n g a d start f b s fr m throws on taken other claim frame above r
     operand_then p n g a d false t start f kind.Flag b s s fr m (HasGiven b (b + 1) s) (on_test on) (guarded f x.throws branch)
     claim frame above (kept_same start s) ready (guard_skips p n f x.throws branch) (or_left x.throws throws)
     (λ v h u given now.
-      subst (Shows t start f s (HasGiven b (b + 1) s) (on_test on v h)) (sym (guard_opens p n f x.throws branch u now.opened.done))
-      (test_shows p n t start f s u x.place v h (HasGiven b (b + 1) s) on taken other given.value
-      (weaker throws t start f s (HasGiven b (b + 1) s) (on true h) (go p n taken u) (or_right x.throws throws) (one h u given.kept now))
-      (weaker throws t start f s (HasGiven b (b + 1) s) (on false h) (go p n other u) (or_right x.throws throws) (two h u given.kept now))))
+    subst (Shows t start f s (HasGiven b (b + 1) s) (on_test on v h)) (sym (guard_opens p n f x.throws branch u now.opened.done))
+    (test_shows p n t start f s u x.place v h (HasGiven b (b + 1) s) on taken other given.value
+    (weaker throws t start f s (HasGiven b (b + 1) s) (on true h) (go p n taken u) (or_right x.throws throws) (one h u given.kept now))
+    (weaker throws t start f s (HasGiven b (b + 1) s) (on false h) (go p n other u) (or_right x.throws throws) (two h u given.kept now))))
   where
     x : Lowered
     x = a.low kind.Flag f b

@@ -49,9 +49,10 @@ each_map P Q (x ∷ xs) holds each = (holds x each.0, each_map P Q xs holds each
 rows_rise : (g : Ground) (b : ℕ) (ks : List Kind) → Rising (in_rows g b ks)
 rows_rise g b [] = tt
 rows_rise g b (k ∷ ks) =
-    let below = slot_below g k in
-    (each_map (λ y. (b + width g ≤ y) × (y < past_rows g (b + width g) ks)) (λ y. b + slot g k < y) (in_rows g (b + width g) ks) (λ y far. let above = far.0 in omega arith) (rows_within g (b + width g) (b + width g) ks (omega arith)),
-      rows_rise g (b + width g) ks)
+    let below = slot_below g k in (
+      each_map (λ y. (b + width g ≤ y) × (y < past_rows g (b + width g) ks)) (λ y. b + slot g k < y) (in_rows g (b + width g) ks) (λ y far. let above = far.0 in omega arith) (rows_within g (b + width g) (b + width g) ks (omega arith)),
+      rows_rise g (b + width g) ks,
+    )
 
 pub frame_is : (g : Ground) (d : MethodDef) (this : Option ℕ) (args : List ℕ) (w : Bool) (b : ℕ) → moving g ≤ b → ((x : ℕ) → this ≡ Some x → x < b) → IsFrame g b (frame_of g d this args w b)
 frame_is g d this args w b still below =
@@ -75,8 +76,8 @@ frame_is g d this args w b still below =
       result_apart = λ same. omega arith;
       result_apart_thrown = λ same. omega arith;
       locals = each_map (λ y. (b ≤ y) × (y < e)) (λ y. (b ≤ y) × (y < e + width g + width g + width g) × (y ≡ e + 1 → ⊥) × (y ≡ e + width g + 1 → ⊥) × (y ≡ e + width g + width g + slot g (result_of d) → ⊥)) (in_rows g b ks)
-        (λ y within. let above = within.0 in let low = within.1 in (omega arith, omega arith, (λ same. omega arith), (λ same. omega arith), (λ same. omega arith)))
-        (rows_within g b b ks (omega arith));
+          (λ y within. let above = within.0 in let low = within.1 in (omega arith, omega arith, (λ same. omega arith), (λ same. omega arith), (λ same. omega arith)))
+          (rows_within g b b ks (omega arith));
       rising = rows_rise g b ks;
     }
 
@@ -90,13 +91,13 @@ constant_zero w kind.Int = positive (2 ^ (w - 1)) (pow_pos (w - 1))
 constant_zero w kind.Flag = refl
 constant_zero w (kind.Ref c) = refl
 
-go_zero : (p : Posed) (n y : ℕ) (k : Kind) (rest : List Plan) (s : DynState) → go p n (l.Do (Const y (zero_of k)) ∷ rest) s ≡ go p n rest (set y (zero_of k) s)
+pub go_zero : (p : Posed) (n y : ℕ) (k : Kind) (rest : List Plan) (s : DynState) → go p n (l.Do (Const y (zero_of k)) ∷ rest) s ≡ go p n rest (set y (zero_of k) s)
 go_zero p n y k rest s = go_do p n (Const y (zero_of k)) rest s ∙ ap (λ z. option_and_then (go p n rest) (with_given y s z)) (constant_zero p.scope.ints k)
 
 go_copy : (p : Posed) (n y x : ℕ) (rest : List Plan) (s : DynState) → go p n (l.Do (Copy y x) ∷ rest) s ≡ go p n rest (set y (var_at s.vars x) s)
 go_copy p n y x rest s = go_do p n (Copy y x) rest s
 
-go_flag : (p : Posed) (n y : ℕ) (c : Bool) (rest : List Plan) (s : DynState) → go p n (l.Do (Const y (Flag c)) ∷ rest) s ≡ go p n rest (set y (Flag c) s)
+pub go_flag : (p : Posed) (n y : ℕ) (c : Bool) (rest : List Plan) (s : DynState) → go p n (l.Do (Const y (Flag c)) ∷ rest) s ≡ go p n rest (set y (Flag c) s)
 go_flag p n y c rest s = go_do p n (Const y (Flag c)) rest s
 
 -- the state behind the locals' first values
@@ -172,11 +173,11 @@ begins p n g d this args w b m s v vs still stands memory this_is below each val
     record {
       state = last;
       leads =
-        go_append p n (fill f.locals args f.kinds) (l.Do (Const f.done (Flag false)) ∷ l.Do (Const f.thrown (Flag false)) ∷ l.Do (Const f.result (zero_of f.gives)) ∷ []) s
-        ∙ ap (option_and_then (go p n (l.Do (Const f.done (Flag false)) ∷ l.Do (Const f.thrown (Flag false)) ∷ l.Do (Const f.result (zero_of f.gives)) ∷ []))) filled.leads
-        ∙ go_flag p n f.done false (l.Do (Const f.thrown (Flag false)) ∷ l.Do (Const f.result (zero_of f.gives)) ∷ []) filled.state
-        ∙ go_flag p n f.thrown false (l.Do (Const f.result (zero_of f.gives)) ∷ []) one
-        ∙ go_zero p n f.result f.gives [] two;
+          go_append p n (fill f.locals args f.kinds) (l.Do (Const f.done (Flag false)) ∷ l.Do (Const f.thrown (Flag false)) ∷ l.Do (Const f.result (zero_of f.gives)) ∷ []) s
+          ∙ ap (option_and_then (go p n (l.Do (Const f.done (Flag false)) ∷ l.Do (Const f.thrown (Flag false)) ∷ l.Do (Const f.result (zero_of f.gives)) ∷ []))) filled.leads
+          ∙ go_flag p n f.done false (l.Do (Const f.thrown (Flag false)) ∷ l.Do (Const f.result (zero_of f.gives)) ∷ []) filled.state
+          ∙ go_flag p n f.thrown false (l.Do (Const f.result (zero_of f.gives)) ∷ []) one
+          ∙ go_zero p n f.result f.gives [] two;
       ready = record {
         opened = record {
           memory = filled.memory ∙ memory;
@@ -195,8 +196,10 @@ begins p n g d this args w b m s v vs still stands memory this_is below each val
         → map (var_at (set z w (set y (Flag false) (set x (Flag false) q))).vars) ys ≡ map (var_at q.vars) ys
     keep_locals x y z w base q [] each = refl
     keep_locals x y z w base q (i ∷ is) each =
-        rw (var_apart (with_var (with_var q.vars x (Flag false)) y (Flag false)) z w i each.0.4 ∙ var_apart (with_var q.vars x (Flag false)) y (Flag false) i each.0.3 ∙ var_apart q.vars x (Flag false) i each.0.2,
-          keep_locals x y z w base q is each.1) refl
+        rw (
+          var_apart (with_var (with_var q.vars x (Flag false)) y (Flag false)) z w i each.0.4 ∙ var_apart (with_var q.vars x (Flag false)) y (Flag false) i each.0.3 ∙ var_apart q.vars x (Flag false) i each.0.2,
+          keep_locals x y z w base q is each.1,
+        ) refl
 
 -- a variable set to the value that it has
 pub set_same : (s : DynState) (x : ℕ) (v : Value) → var_at s.vars x ≡ v → (y : ℕ) → var_at (set x v s).vars y ≡ var_at s.vars y

@@ -58,13 +58,16 @@ passed_loud p n g start caller f false m s r is flags apart loud memory kept = a
 passed_loud p n g start caller f true m s r is flags apart loud memory kept =
     let one : DynState = set caller.done (var_at r.vars f.thrown) r in
     let last : DynState = set caller.thrown (var_at one.vars f.thrown) one in
-    let seen : var_at one.vars f.thrown ≡ Flag true = var_apart r.vars caller.done (var_at r.vars f.thrown) f.thrown (λ same. apart (sym same)) ∙ loud in
-    (last, go_do p n (Copy caller.done f.thrown) (l.Do (Copy caller.thrown f.thrown) ∷ []) r ∙ go_do p n (Copy caller.thrown f.thrown) [] one, record {
-      memory = memory;
-      done = var_apart one.vars caller.thrown (var_at one.vars f.thrown) caller.done flags.apart ∙ var_set r.vars caller.done (var_at r.vars f.thrown) ∙ loud;
-      thrown = var_set one.vars caller.thrown (var_at one.vars f.thrown) ∙ seen;
-      kept = λ z low. kept_set start caller.thrown (var_at one.vars f.thrown) one flags.thrown_above z low ∙ kept_set start caller.done (var_at r.vars f.thrown) r flags.done_above z low ∙ kept z low;
-    })
+    let seen : var_at one.vars f.thrown ≡ Flag true = var_apart r.vars caller.done (var_at r.vars f.thrown) f.thrown (λ same. apart (sym same)) ∙ loud in (
+      last,
+      go_do p n (Copy caller.done f.thrown) (l.Do (Copy caller.thrown f.thrown) ∷ []) r ∙ go_do p n (Copy caller.thrown f.thrown) [] one,
+      record {
+        memory = memory;
+        done = var_apart one.vars caller.thrown (var_at one.vars f.thrown) caller.done flags.apart ∙ var_set r.vars caller.done (var_at r.vars f.thrown) ∙ loud;
+        thrown = var_set one.vars caller.thrown (var_at one.vars f.thrown) ∙ seen;
+        kept = λ z low. kept_set start caller.thrown (var_at one.vars f.thrown) one flags.thrown_above z low ∙ kept_set start caller.done (var_at r.vars f.thrown) r flags.done_above z low ∙ kept z low;
+      },
+    )
 
 -- ## the end
 
@@ -137,9 +140,9 @@ behind p n g d start b caller f body fr m s t e o flags above opened frame gives
         rest_of false = refl
     gone true is None result h r memory since unthrown undone begins_at =
         let stuck : go p n (epilogue d f body) r ≡ None =
-            ap (λ w. go p n (if w && is_none d.result then guarded f (stops body) (l.Fail ∷ []) else []) r) is
-            ∙ ap (λ z. go p n (if is_none z then guarded f (stops body) (l.Fail ∷ []) else []) r) result
-            ∙ guard_opens p n f (stops body) (l.Fail ∷ []) r undone ∙ go_one p n l.Fail r ∙ next_fail p n r in
+        ap (λ w. go p n (if w && is_none d.result then guarded f (stops body) (l.Fail ∷ []) else []) r) is
+        ∙ ap (λ z. go p n (if is_none z then guarded f (stops body) (l.Fail ∷ []) else []) r) result
+        ∙ guard_opens p n f (stops body) (l.Fail ∷ []) r undone ∙ go_one p n l.Fail r ∙ next_fail p n r in
         subst (λ z. Shows body.throws start caller s (InlineResult true b f.result s) (as_wanted true (Gives (option_map (λ (r : Kind × Bool). zero_of r.0) z) h)) (go p n (epilogue d f body ++ passed_on caller f body.throws) r)) (sym result)
         (subst (Shows body.throws start caller s (InlineResult true b f.result s) Leaves) (sym (go_append p n (epilogue d f body) (passed_on caller f body.throws) r ∙ ap (option_and_then (go p n (passed_on caller f body.throws))) stuck)) tt)
     gone false is None result h r memory since unthrown undone begins_at =
@@ -175,7 +178,7 @@ pub body_shows : (p : Posed) (g : Ground) (run : Run) (inline : Inline) (d : Met
     → (g.turnless ≡ true → p.scope.loops ≡ 0) → Inlines p p.scope.loops g run inline
     → HasFlags g start caller → caller.base ≤ b → IsOpen g caller m s → ThisIs this v s → ((x : ℕ) → this ≡ Some x → x < b) → Each (λ x. x < b) args → map (var_at s.vars) args ≡ vs
     → Shows (inline_body g inline (Some d) this args w caller b).throws start caller s (InlineResult w b (inline_body g inline (Some d) this args w caller b).place s) (as_wanted w (run_body p run (Some d) v vs m))
-      (go p p.scope.loops (inline_body g inline (Some d) this args w caller b).steps s)
+    (go p p.scope.loops (inline_body g inline (Some d) this args w caller b).steps s)
 body_shows p g run inline d this args w caller b start s m v vs none inlines flags above opened this_is below each values =
     let n : ℕ = p.scope.loops in
     let f : Spots = frame_of g d this args w b in

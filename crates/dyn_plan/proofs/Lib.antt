@@ -16,4 +16,5 @@ pub mod Loops
 pub mod StmtAll
 pub mod FrameRows
 pub mod FrameShown
+pub mod WholeShown
 mod Rows

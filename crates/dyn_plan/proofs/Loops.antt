@@ -106,23 +106,27 @@ asked_shows p n g a d t start f s q fr m claim frame ready kept =
     both (Gives v h) (Some z) given =
         let now : IsReady g f fr h z = ready_on g start f.base f fr m h q z frame (omega arith) ready given.memory given.kept in
         let further : IsKept f.base z (set y (var_at z.vars x.place) z) = kept_set f.base y (var_at z.vars x.place) z (omega arith) in
-        subst (Asked g x.throws start f fr y s (Gives v h)) (sym (settled_open p n f (t || x.throws) y x.place z now.opened.done))
-        (ready_on g start f.base f fr h h z (set y (var_at z.vars x.place) z) frame (omega arith) now given.memory further,
+        subst (Asked g x.throws start f fr y s (Gives v h)) (sym (settled_open p n f (t || x.throws) y x.place z now.opened.done)) (
+          ready_on g start f.base f fr h h z (set y (var_at z.vars x.place) z) frame (omega arith) now given.memory further,
           var_set z.vars y (var_at z.vars x.place) ∙ given.value,
-          λ w low. let ordered = frame.flags.ordered in further w (omega arith) ∙ given.kept w (omega arith) ∙ kept w low)
+          λ w low. let ordered = frame.flags.ordered in further w (omega arith) ∙ given.kept w (omega arith) ∙ kept w low,
+        )
     both (Gives v h) None given = absurd given
     both (Throws h) (Some z) given =
         let ordered = frame.flags.ordered in
         let done_below = frame.flags.done_below in
         let thrown_below = frame.flags.thrown_below in
         let further : IsKept f.base z (set y (Flag false) z) = kept_set f.base y (Flag false) z (omega arith) in
-        subst (Asked g x.throws start f fr y s (Throws h)) (sym (settled_done p n f (t || x.throws) y x.place z (or_right t x.throws given.0) given.1.done))
-        (given.0, record {
-          memory = given.1.memory;
-          done = further f.done done_below ∙ given.1.done;
-          thrown = further f.thrown thrown_below ∙ given.1.thrown;
-          kept = λ w low. further w (omega arith) ∙ given.1.kept w low ∙ kept w low;
-        }, var_set z.vars y (Flag false))
+        subst (Asked g x.throws start f fr y s (Throws h)) (sym (settled_done p n f (t || x.throws) y x.place z (or_right t x.throws given.0) given.1.done)) (
+          given.0,
+          record {
+            memory = given.1.memory;
+            done = further f.done done_below ∙ given.1.done;
+            thrown = further f.thrown thrown_below ∙ given.1.thrown;
+            kept = λ w low. further w (omega arith) ∙ given.1.kept w low ∙ kept w low;
+          },
+          var_set z.vars y (Flag false),
+        )
     both (Throws h) None given = absurd given
     both Leaves (Some z) given = absurd given
     both Leaves None given = tt
@@ -149,27 +153,31 @@ done_on : (g : Ground) (t r : Bool) (start : ℕ) (f : Spots) (fr : Frame) (s q 
 done_on g t r start f fr s q w (Goes ls m) frame none ended = absurd (none ls m refl)
 done_on g t r start f fr s q w (Returns v m) frame none ended =
     let ordered = frame.flags.ordered in
-    let further : IsKept f.base q (set (f.base + 1) w q) = kept_set f.base (f.base + 1) w q (omega arith) in
-    (ended.0, record {
-      memory = ended.1.memory;
-      done = further f.done frame.flags.done_below ∙ ended.1.done;
-      thrown = further f.thrown frame.flags.thrown_below ∙ ended.1.thrown;
-      result = by v further ended.1.result;
-      kept = λ z low. further z (omega arith) ∙ ended.1.kept z low;
-    })
+    let further : IsKept f.base q (set (f.base + 1) w q) = kept_set f.base (f.base + 1) w q (omega arith) in (
+      ended.0,
+      record {
+        memory = ended.1.memory;
+        done = further f.done frame.flags.done_below ∙ ended.1.done;
+        thrown = further f.thrown frame.flags.thrown_below ∙ ended.1.thrown;
+        result = by v further ended.1.result;
+        kept = λ z low. further z (omega arith) ∙ ended.1.kept z low;
+      },
+    )
   where
     by : (v : Option Value) → IsKept f.base q (set (f.base + 1) w q) → ResultIs f.result v q → ResultIs f.result v (set (f.base + 1) w q)
     by (Some v) further is = further f.result frame.result_below ∙ is
     by None further is = tt
 done_on g t r start f fr s q w (Raises m) frame none ended =
     let ordered = frame.flags.ordered in
-    let further : IsKept f.base q (set (f.base + 1) w q) = kept_set f.base (f.base + 1) w q (omega arith) in
-    (ended.0, record {
-      memory = ended.1.memory;
-      done = further f.done frame.flags.done_below ∙ ended.1.done;
-      thrown = further f.thrown frame.flags.thrown_below ∙ ended.1.thrown;
-      kept = λ z low. further z (omega arith) ∙ ended.1.kept z low;
-    })
+    let further : IsKept f.base q (set (f.base + 1) w q) = kept_set f.base (f.base + 1) w q (omega arith) in (
+      ended.0,
+      record {
+        memory = ended.1.memory;
+        done = further f.done frame.flags.done_below ∙ ended.1.done;
+        thrown = further f.thrown frame.flags.thrown_below ∙ ended.1.thrown;
+        kept = λ z low. further z (omega arith) ∙ ended.1.kept z low;
+      },
+    )
 done_on g t r start f fr s q w Stops frame none ended = absurd ended
 
 -- the rest of a loop, whose test has the value at the flag
@@ -195,7 +203,7 @@ behind_body : (p : Posed) (n : ℕ) (g : Ground) (a : Low) (d : Code) (c : Body)
     → LoopRest p n g t r start f d c (y.steps ++ asked f (stops y) (a.low kind.Flag f f.base) (f.base + 1)) k
     → Ended g y.throws y.returns start f fr s e o
     → Ended g t r start f fr s (then_do e (λ ls m. exit_wanted f.wanted (turns k d c (with_locals fr ls) m)))
-      (option_and_then (while_true k (f.base + 1) (go p n (y.steps ++ asked f (stops y) (a.low kind.Flag f f.base) (f.base + 1)))) (option_and_then (go p n (asked f (stops y) (a.low kind.Flag f f.base) (f.base + 1))) o))
+    (option_and_then (while_true k (f.base + 1) (go p n (y.steps ++ asked f (stops y) (a.low kind.Flag f f.base) (f.base + 1)))) (option_and_then (go p n (asked f (stops y) (a.low kind.Flag f f.base) (f.base + 1))) o))
 behind_body p n g a d c y t r start f k fr s (Goes ls m) (Some q) claim frame more again tests rest ended =
     let x : Lowered = a.low kind.Flag f f.base in
     let turn : List Plan = y.steps ++ asked f (stops y) x (f.base + 1) in
@@ -210,7 +218,7 @@ behind_body p n g a d c y t r start f k fr s (Returns v m) (Some q) claim frame 
     let last : DynState = set (f.base + 1) (Flag false) q in
     subst (Ended g t r start f fr s (Returns v m))
     (sym (ap (option_and_then (while_true k (f.base + 1) (go p n turn))) (asked_done p n f (stops y) x (f.base + 1) q (or_right y.throws y.returns ended.0) ended.1.done)
-      ∙ loop_ends k (f.base + 1) (go p n turn) last (var_set q.vars (f.base + 1) (Flag false))))
+    ∙ loop_ends k (f.base + 1) (go p n turn) last (var_set q.vars (f.base + 1) (Flag false))))
     (ended_weaker g y.throws y.returns t r start f fr s (Returns v m) (Some last) more again (done_on g y.throws y.returns start f fr s q (Flag false) (Returns v m) frame (λ ls h is. is_no_end ls h v m is) ended))
   where
     is_end : Exit → Bool
@@ -228,7 +236,7 @@ behind_body p n g a d c y t r start f k fr s (Raises m) (Some q) claim frame mor
     let last : DynState = set (f.base + 1) (Flag false) q in
     subst (Ended g t r start f fr s (Raises m))
     (sym (ap (option_and_then (while_true k (f.base + 1) (go p n turn))) (asked_done p n f (stops y) x (f.base + 1) q (or_left y.throws y.returns ended.0) ended.1.done)
-      ∙ loop_ends k (f.base + 1) (go p n turn) last (var_set q.vars (f.base + 1) (Flag false))))
+    ∙ loop_ends k (f.base + 1) (go p n turn) last (var_set q.vars (f.base + 1) (Flag false))))
     (ended_weaker g y.throws y.returns t r start f fr s (Raises m) (Some last) more again (done_on g y.throws y.returns start f fr s q (Flag false) (Raises m) frame (λ ls h is. is_no_end ls h m is) ended))
   where
     is_end : Exit → Bool
@@ -336,8 +344,8 @@ while_shows p g a d lay c start f s fr m none claim body frame ready = by g.turn
 
     by : (b : Bool) → (b ≡ true → p.scope.loops ≡ 0)
         → Ended g (if b then turnless_low f (a.low kind.Flag f f.base) (f.base + 1) else loop_low f (a.low kind.Flag f f.base) (lay f) (f.base + 1)).throws
-          (if b then turnless_low f (a.low kind.Flag f f.base) (f.base + 1) else loop_low f (a.low kind.Flag f f.base) (lay f) (f.base + 1)).returns start f fr s
-          (exit_wanted f.wanted (turns p.scope.loops d c fr m)) (go p p.scope.loops (if b then turnless_low f (a.low kind.Flag f f.base) (f.base + 1) else loop_low f (a.low kind.Flag f f.base) (lay f) (f.base + 1)).steps s)
+        (if b then turnless_low f (a.low kind.Flag f f.base) (f.base + 1) else loop_low f (a.low kind.Flag f f.base) (lay f) (f.base + 1)).returns start f fr s
+        (exit_wanted f.wanted (turns p.scope.loops d c fr m)) (go p p.scope.loops (if b then turnless_low f (a.low kind.Flag f f.base) (f.base + 1) else loop_low f (a.low kind.Flag f f.base) (lay f) (f.base + 1)).steps s)
     by true none =
         whole p n g a d c turn (l.If (f.base + 1) (l.Fail ∷ []) [] ∷ []) x.throws false start f n s fr m claim frame ready (λ t. t) (last_is n (none refl)) (stopped n (none refl))
     by false none =

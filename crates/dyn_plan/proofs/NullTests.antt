@@ -29,14 +29,17 @@ use Rattle.dyn_plan.proofs.Operations.{go_do, NullThere, null_there}
 pub throw_shows : (p : Posed) (n : ℕ) (g : Ground) (start : ℕ) (f : Spots) (m : Memory) (s u : DynState) {B : Type 0} (R : B → Memory → DynState → Type 0)
     → HasFlags g start f → Remembers m u → IsKept start s u → Shows true start f s R (Throws m) (go p n (throw f) u)
 throw_shows p n g start f m s u R flags memory kept =
-    subst (Shows true start f s R (Throws m)) (sym leads) (refl, record {
-      memory = memory;
-      done = var_apart (with_var u.vars f.done (Flag true)) f.thrown (Flag true) f.done flags.apart ∙ var_set u.vars f.done (Flag true);
-      thrown = var_set (with_var u.vars f.done (Flag true)) f.thrown (Flag true);
-      kept = kept_then start start start s u last (omega arith) (omega arith) kept
-        (kept_then start start start u (set f.done (Flag true) u) last (omega arith) (omega arith)
-        (kept_set start f.done (Flag true) u flags.done_above) (kept_set start f.thrown (Flag true) (set f.done (Flag true) u) flags.thrown_above));
-    })
+    subst (Shows true start f s R (Throws m)) (sym leads) (
+      refl,
+      record {
+        memory = memory;
+        done = var_apart (with_var u.vars f.done (Flag true)) f.thrown (Flag true) f.done flags.apart ∙ var_set u.vars f.done (Flag true);
+        thrown = var_set (with_var u.vars f.done (Flag true)) f.thrown (Flag true);
+        kept = kept_then start start start s u last (omega arith) (omega arith) kept
+            (kept_then start start start u (set f.done (Flag true) u) last (omega arith) (omega arith)
+            (kept_set start f.done (Flag true) u flags.done_above) (kept_set start f.thrown (Flag true) (set f.done (Flag true) u) flags.thrown_above));
+      },
+    )
   where
     last : DynState
     last = set f.thrown (Flag true) (set f.done (Flag true) u)

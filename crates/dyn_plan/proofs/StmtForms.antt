@@ -99,10 +99,10 @@ block_shows p n g t start f s q fr m (x ∷ xs) (b ∷ bs) claims frame ready ke
     (then_does p n g y.throws y.returns (y.throws || rest.throws) (y.returns || rest.returns) start f fr s q (exit_wanted f.wanted (b fr m)) (λ ls h. exit_wanted f.wanted (k ls h)) (guarded f t y.steps) rest.steps
     (λ is. block_skips p n f (t || stops y) (map (λ x. x f) xs) (or_right t (stops y) is)) (or_left y.throws rest.throws) (or_left y.returns rest.returns)
     (subst (Ended g y.throws y.returns start f fr s (exit_wanted f.wanted (b fr m))) (sym (guard_opens p n f t y.steps q ready.opened.done))
-      (ended_from g y.throws y.returns start f fr s q (exit_wanted f.wanted (b fr m)) (go p n y.steps q) kept (claims.0.shows start f q fr m frame ready)))
+    (ended_from g y.throws y.returns start f fr s q (exit_wanted f.wanted (b fr m)) (go p n y.steps q) kept (claims.0.shows start f q fr m frame ready)))
     (λ ls h z now since.
-      ended_weaker g rest.throws rest.returns (y.throws || rest.throws) (y.returns || rest.returns) start f fr s (exit_wanted f.wanted (k ls h)) (go p n rest.steps z) (or_right y.throws rest.throws) (or_right y.returns rest.returns)
-      (block_shows p n g (t || stops y) start f s z (with_locals fr ls) h xs bs claims.1 frame now since)))
+    ended_weaker g rest.throws rest.returns (y.throws || rest.throws) (y.returns || rest.returns) start f fr s (exit_wanted f.wanted (k ls h)) (go p n rest.steps z) (or_right y.throws rest.throws) (or_right y.returns rest.returns)
+    (block_shows p n g (t || stops y) start f s z (with_locals fr ls) h xs bs claims.1 frame now since)))
 
 -- ## assignments
 
@@ -114,8 +114,8 @@ assign_shows p n g a d i k start f s fr m claim frame ready =
     operand_does p n g a d false x.throws false start f k f.base s s fr m (set_local fr i) (guarded f x.throws (set_to (slice_get f.locals i) x.place)) claim frame (omega arith) (kept_same start s) ready
     (guard_skips p n f x.throws (set_to (slice_get f.locals i) x.place)) (λ t. t)
     (λ v h q given now since.
-      subst (Ended g x.throws false start f fr s (exit_wanted f.wanted (set_local fr i v h))) (sym (guard_opens p n f x.throws (set_to (slice_get f.locals i) x.place) q now.opened.done))
-      (set_shows p n g x.throws start f fr h s q i x.place v frame now since given.value))
+    subst (Ended g x.throws false start f fr s (exit_wanted f.wanted (set_local fr i v h))) (sym (guard_opens p n f x.throws (set_to (slice_get f.locals i) x.place) q now.opened.done))
+    (set_shows p n g x.throws start f fr h s q i x.place v frame now since given.value))
 
 -- one more or one less, at a number's variable
 pub step_shows : (p : Posed) (n : ℕ) (g : Ground) (t : Bool) (start b x : ℕ) (f : Spots) (m : Memory) (s : DynState) (up : Bool) (v : Value) → b ≤ x → Stands g s → Remembers m s → var_at s.vars x ≡ v
@@ -162,4 +162,3 @@ step_local_shows p n g start f fr m s i up frame ready =
     by None at = rw (wanted_stops f.wanted) (ends_nowhere p n g false false start f fr s s)
 
 -- ## fields
-

@@ -197,18 +197,20 @@ pub local_set : (p : Posed) (n : ℕ) (g : Ground) (start : ℕ) (f : Spots) (fr
     → IsReady g f (with_locals fr (slice_set fr.locals i v)) m (set y v s) × IsKept start s (set y v s)
 local_set p n g start f fr m s i y v frame ready at =
     let here = each_at (λ y. (start ≤ y) × (y < f.base) × (y ≡ f.done → ⊥) × (y ≡ f.thrown → ⊥) × (y ≡ f.result → ⊥)) f.locals i y frame.locals at in
-    let kept : IsKept start s (set y v s) = kept_set start y v s here.0 in
-    (record {
-      opened = record {
-        memory = ready.opened.memory;
-        done = var_apart s.vars y v f.done (λ same. here.2 (sym same)) ∙ ready.opened.done;
-        thrown = var_apart s.vars y v f.thrown (λ same. here.3 (sym same)) ∙ ready.opened.thrown;
-        still = stands_on g start s (set y v s) frame.flags.still kept ready.opened.still;
-      };
-      this = this_on start s (set y v s) f.this fr.this frame.this_below kept ready.this;
-      locals = set_one f.locals i y s.vars v frame.rising at ∙ ap (λ vs. slice_set vs i v) ready.locals;
-      result = var_apart s.vars y v f.result (λ same. here.4 (sym same)) ∙ ready.result;
-    }, kept)
+    let kept : IsKept start s (set y v s) = kept_set start y v s here.0 in (
+      record {
+        opened = record {
+          memory = ready.opened.memory;
+          done = var_apart s.vars y v f.done (λ same. here.2 (sym same)) ∙ ready.opened.done;
+          thrown = var_apart s.vars y v f.thrown (λ same. here.3 (sym same)) ∙ ready.opened.thrown;
+          still = stands_on g start s (set y v s) frame.flags.still kept ready.opened.still;
+        };
+        this = this_on start s (set y v s) f.this fr.this frame.this_below kept ready.this;
+        locals = set_one f.locals i y s.vars v frame.rising at ∙ ap (λ vs. slice_set vs i v) ready.locals;
+        result = var_apart s.vars y v f.result (λ same. here.4 (sym same)) ∙ ready.result;
+      },
+      kept,
+    )
 
 -- a local is set, where it is there
 pub set_local_is : (h : ℕ → Value) (xs : List ℕ) (fr : Frame) (i : ℕ) (v : Value) (m : Memory) (t : Bool) → map h xs ≡ fr.locals → is_some (slice_get xs i) ≡ t → set_local fr i v m ≡ (if t then Goes (slice_set fr.locals i v) m else Stops)
