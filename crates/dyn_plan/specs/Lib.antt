@@ -1,9 +1,10 @@
 pub mod Plans
 pub mod Programs
-pub mod Laws
 pub mod Places
 pub mod Guards
 pub mod Expressions
 pub mod Statements
 pub mod Frames
 pub mod Whole
+pub mod Follows
+pub mod Laws
