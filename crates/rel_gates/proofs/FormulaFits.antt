@@ -67,7 +67,7 @@ fits_fits p a fits kinds sorted = subst (FitUses p kinds) (sym (uses_fits p a)) 
 
 -- ## a relation that changes
 
-same_use-refl : (u : Use) → same_use u u ≡ true
+pub same_use-refl : (u : Use) → same_use u u ≡ true
 same_use-refl AsSet = refl
 same_use-refl AsNumber = refl
 same_use-refl AsFlag = refl

@@ -19,4 +19,11 @@ pub mod InputLists
 pub mod TupleNaming
 pub mod TuplesInOrder
 pub mod ClassLimits
+pub mod NumberMeaning
+pub mod NumberForms
+pub mod Connectives
+pub mod NumberTests
+pub mod SameRows
+pub mod RowSteps
+pub mod ChangedRows
 pub mod Told

@@ -5,4 +5,6 @@ pub mod Meant
 pub mod Rows
 pub mod Limits
 pub mod Counted
+pub mod Parts
+pub mod Changes
 pub mod Built

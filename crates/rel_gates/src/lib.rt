@@ -3,12 +3,14 @@
 #![tactic(auto)]
 
 mod bits;
+mod changes;
 mod classes;
 mod inputs;
 mod limits;
 mod members;
 mod named;
 mod naming;
+mod numbers;
 mod truths;
 mod tuples;
 mod uses;
