@@ -247,6 +247,23 @@ pub behind_all : (n : ℕ) (vars : Vars) (parts : List Prog) (done : ℕ) (sets 
     → AreBehind n vars (drop (length parts - done) parts) sets → AreBehind n vars parts sets
 behind_all n vars parts done sets high is = subst (λ i. AreBehind n vars (drop i parts) sets) (let none : length parts - done ≡ 0 = omega (arith, high) in none) is
 
+-- the variables that are looked at behind the first i parts
+abbrev pub behind : Vars → List Prog → ℕ → Vars
+behind vars parts i = looked_in_turn (map looked_from (drop i parts)) vars
+
+-- the set that was kept for the next part
+pub seq_taken :
+    (n : ℕ) (vars : Vars) (parts : List Prog) (i : ℕ) (x : Prog) (sets now : List (List Bool)) (set : List Bool)
+    → i < length parts
+    → x ≡ get_or parts i x
+    → AreBehind n vars (drop i parts) sets
+    → ((rest : List (List Bool)) (one : List Bool) → sets ≡ rest ++ one ∷ [] → (set ≡ one) × (now ≡ rest))
+    → IsBehind x n (behind vars parts (i + 1)) set × AreBehind n vars (drop (i + 1) parts) now
+seq_taken n vars parts i x sets now set low is are taken =
+    let kept : AreBehind n vars (x ∷ drop (i + 1) parts) sets = subst (λ xs. AreBehind n vars xs sets) (dropped parts i x low is) are in
+    let both = taken kept.0 kept.1 kept.2 in
+    (subst (λ z. IsBehind x n (behind vars parts (i + 1)) z) (sym both.0) kept.3, subst (λ z. AreBehind n vars (drop (i + 1) parts) z) (sym both.1) kept.4)
+
 -- a program in which something is joined has its set
 pub list_behind : (prog : Prog) (n : ℕ) (vars : Vars) (set : List Bool) → is_single prog ≡ false → IsBehind prog n vars set → IsList n vars set
 list_behind prog n vars set joins (inl single) = absurd (false≢true (sym joins ∙ single))

@@ -39,7 +39,7 @@ use Rattle.dyn_steps.proofs.Growing.{all_more}
 use Rattle.dyn_steps.proofs.Following.{Then, KeepsAll, then_path}
 use Rattle.dyn_steps.proofs.JoinedPaths.{joined_path}
 use Rattle.dyn_steps.proofs.Tested.{path_widened, path_alike}
-use Rattle.dyn_rel.proofs.LookedSets.{looked_act, looked_test, looked_seq, looked_choice, looked_star, single_seq, single_choice, any_looked, dropped, list_behind}
+use Rattle.dyn_rel.proofs.LookedSets.{looked_act, looked_test, looked_seq, looked_choice, looked_star, single_seq, single_choice, any_looked, dropped, list_behind, behind}
 
 -- ## nothing is done
 
@@ -227,10 +227,6 @@ item_kinded p kinds parts i x all low is = all_at (is_kinded p kinds) parts i x 
 
 -- ## the walk over sequences
 
--- the variables that are looked at behind the first i parts
-abbrev pub behind : Vars → List Prog → ℕ → Vars
-behind vars parts i = looked_in_turn (map looked_from (drop i parts)) vars
-
 -- the first i parts of a sequence
 abbrev pub IsBegun : Posed → List Kind → Vars → List Prog → ℕ → Front → Part → Type 0
 IsBegun p kinds vars parts i from part = IsPath p kinds (looked_in_turn (map looked_from parts) vars) (behind vars parts i) (Chain (Runs p) (take i parts)) from part
@@ -292,19 +288,6 @@ seq_ended p kinds vars from end parts i all f high meaning sorted begun =
     path = subst (λ xs. IsPath p kinds (looked_in_turn (map looked_from parts) vars) vars (Chain (Runs p) xs) from whole) (take_all i parts high)
         (subst (λ xs. IsPath p kinds (looked_in_turn (map looked_from parts) vars) (looked_in_turn (map looked_from xs) vars) (Chain (Runs p) (take i parts)) from whole)
         (drop_all i parts high) begun)
-
--- the set that was kept for the next part
-pub seq_taken :
-    (n : ℕ) (vars : Vars) (parts : List Prog) (i : ℕ) (x : Prog) (sets now : List (List Bool)) (set : List Bool)
-    → i < length parts
-    → x ≡ get_or parts i x
-    → AreBehind n vars (drop i parts) sets
-    → ((rest : List (List Bool)) (one : List Bool) → sets ≡ rest ++ one ∷ [] → (set ≡ one) × (now ≡ rest))
-    → IsBehind x n (behind vars parts (i + 1)) set × AreBehind n vars (drop (i + 1) parts) now
-seq_taken n vars parts i x sets now set low is are taken =
-    let kept : AreBehind n vars (x ∷ drop (i + 1) parts) sets = subst (λ xs. AreBehind n vars xs sets) (dropped parts i x low is) are in
-    let both = taken kept.0 kept.1 kept.2 in
-    (subst (λ z. IsBehind x n (behind vars parts (i + 1)) z) (sym both.0) kept.3, subst (λ z. AreBehind n vars (drop (i + 1) parts) z) (sym both.1) kept.4)
 
 -- ## the walk over branches
 

@@ -2,7 +2,8 @@ use Rattle.std.proofs.Common.{◌+◌, length, inr, sym, ap, subst, ◌∙◌}
 use Rattle.std.specs.Prelude.{map, slice_get}
 use Rattle.dyn_steps.specs.declared.point.Point.{Point}
 use Rattle.dyn_rel.specs.Looking.{looked_by_any, looked_from, IsBehind}
-use Rattle.dyn_rel.proofs.Walking.{behind, seq_begun, seq_step, seq_taken, seq_ended, choice_begun, choice_step, choice_ended}
+use Rattle.dyn_rel.proofs.Walking.{seq_begun, seq_step, seq_ended, choice_begun, choice_step, choice_ended}
+use Rattle.dyn_rel.proofs.LookedSets.{behind, seq_taken}
 use Rattle.dyn_rel.proofs.Walking.{prog_of_act, prog_of_test, prog_of_seq, prog_of_choice, prog_of_star}
 use Rattle.dyn_rel.proofs.walk.+walking.Goals as goal
 
