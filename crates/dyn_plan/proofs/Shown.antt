@@ -184,7 +184,8 @@ guard_opens p n f true (x ∷ steps) s open_ =
 
 -- ## putting together
 
-pub weaker : (t u : Bool) (start : ℕ) (f : Spots) (s : DynState) {A : Type 0} (Q : A → Memory → DynState → Type 0) (e : Ends A) (o : Option DynState) → (t ≡ true → u ≡ true) → Shows t start f s Q e o → Shows u start f s Q e o
+pub weaker : (t u : Bool) (start : ℕ) (f : Spots) (s : DynState) {A : Type 0} (Q : A → Memory → DynState → Type 0) (e : Ends A) (o : Option DynState) → (t ≡ true → u ≡ true)
+    → Shows t start f s Q e o → Shows u start f s Q e o
 weaker t u start f s Q (Gives a m) (Some r) more shows = shows
 weaker t u start f s Q (Gives a m) None more shows = absurd shows
 weaker t u start f s Q (Throws m) (Some r) more shows = (more shows.0, shows.1)
@@ -212,7 +213,8 @@ shows_from t start b f r s Q R Leaves None low kept holds shows = tt
 
 -- one part, and then another that is left out where the frame is done; the steps begin at w, and what is shown is shown
 -- from s
-pub then_shows : (p : Posed) (n : ℕ) (t u : Bool) (start : ℕ) (f : Spots) (s w : DynState) {A B : Type 0} (Q : A → Memory → DynState → Type 0) (R : B → Memory → DynState → Type 0) (e : Ends A) (k : A → Memory → Ends B) (first rest : List Plan)
+pub then_shows : (p : Posed) (n : ℕ) (t u : Bool) (start : ℕ) (f : Spots) (s w : DynState) {A B : Type 0} (Q : A → Memory → DynState → Type 0) (R : B → Memory → DynState → Type 0)
+    (e : Ends A) (k : A → Memory → Ends B) (first rest : List Plan)
     → (t ≡ true → Skips p n f rest)
     → (t ≡ true → u ≡ true)
     → Shows t start f s Q e (go p n first w)
@@ -248,10 +250,12 @@ open_on g start b f m l s t flags low open_ memory kept = record {
   still = let far = flags.still in let ordered = flags.ordered in stands_on g b s t (omega arith) kept open_.still;
 }
 
-pub ready_on : (g : Ground) (start b : ℕ) (f : Spots) (fr : Frame) (m l : Memory) (s t : DynState) → IsFrame g start f → f.base ≤ b → IsReady g f fr m s → Remembers l t → IsKept b s t → IsReady g f fr l t
+pub ready_on : (g : Ground) (start b : ℕ) (f : Spots) (fr : Frame) (m l : Memory) (s t : DynState) → IsFrame g start f → f.base ≤ b → IsReady g f fr m s → Remembers l t
+    → IsKept b s t → IsReady g f fr l t
 ready_on g start b f fr m l s t frame low ready memory kept = record {
   opened = open_on g start b f m l s t frame.flags low ready.opened memory kept;
   this = this_on b s t f.this fr.this (λ x is. let below = frame.this_below x is in let ordered = frame.flags.ordered in omega arith) kept ready.this;
-  locals = locals_on b (λ y. (start ≤ y) × (y < f.base) × (y ≡ f.done → ⊥) × (y ≡ f.thrown → ⊥) × (y ≡ f.result → ⊥)) s t f.locals (λ x each. let below = each.1 in omega arith) frame.locals kept ∙ ready.locals;
+  locals = locals_on b (λ y. (start ≤ y) × (y < f.base) × (y ≡ f.done → ⊥) × (y ≡ f.thrown → ⊥) × (y ≡ f.result → ⊥)) s t f.locals (λ x each. let below = each.1 in omega arith)
+      frame.locals kept ∙ ready.locals;
   result = let below = frame.result_below in kept f.result (omega arith) ∙ ready.result;
 }

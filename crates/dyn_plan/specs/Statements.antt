@@ -58,7 +58,8 @@ step_local g up None = l.Fail ∷ []
 -- a field of the object at x is set to the value at y
 abbrev pub write_low : Ground → ℕ → Spots → Lowered → Lowered → Laid
 write_low g i f x y = record {
-  steps = x.steps ++ (guarded f x.throws y.steps ++ guarded f (x.throws || y.throws) (through g f (behind_both g f.base x y) (class_of_field g i) x.place (l.Do (Write x.place i y.place) ∷ [])));
+  steps = x.steps ++ (guarded f x.throws y.steps ++ guarded f (x.throws || y.throws)
+      (through g f (behind_both g f.base x y) (class_of_field g i) x.place (l.Do (Write x.place i y.place) ∷ [])));
   throws = x.throws || y.throws || not (is_receiver f x.place);
   returns = false;
 }
