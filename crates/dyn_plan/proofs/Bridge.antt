@@ -9,19 +9,17 @@ use Rattle.heap_core.specs.declared.value.Value.{Value}
 use Rattle.heap_core.specs.declared.value.Value.TheVariants.{Null, Obj, Num, Flag}
 use Rattle.heap_core.specs.Outcomes.{is_value}
 use Rattle.heap_core.specs.Posed.{Posed}
-use Rattle.dyn_core.specs.declared.prog.Act.{Act}
 use Rattle.dyn_core.specs.declared.prog.Prog.{Prog}
 use Rattle.dyn_core.specs.declared.prog.Prog.TheVariants as q
 use Rattle.dyn_core.specs.declared.state.DynState.{DynState}
 use Rattle.dyn_core.specs.States.{var_at}
 use Rattle.dyn_core.specs.Runs.{LastStates, passes, one_by_one, up_to, ends}
 use Rattle.dyn_core.proofs.Forms.{ends_act, ends_test, ends_seq, ends_choice, ends_star}
-use Rattle.dyn_core.proofs.Alike.{flat_alike}
 use Rattle.dyn_plan.specs.declared.plan.Plan.{Plan, ind-Plan, roll-Plan, map-Plan}
 use Rattle.dyn_plan.specs.declared.plan.Plan.TheOpen.{Plan-F}
 use Rattle.dyn_plan.specs.declared.plan.Plan.TheVariants as l
-use Rattle.dyn_plan.specs.Plans.{Next, in_line, by_flag, while_true, next, go}
-use Rattle.dyn_plan.specs.Programs.{either, repetition, program_of_step, program}
+use Rattle.dyn_plan.specs.Plans.{Next, by_flag, while_true, next, go}
+use Rattle.dyn_plan.specs.Programs.{program_of_step}
 use Rattle.dyn_plan.specs.Laws.{PlansRunAsPrograms}
 use Rattle.dyn_plan.proofs.PlanForms.{next_do, next_fail, next_if, next_while, program_do, program_fail, program_if, program_while}
 

@@ -1,44 +1,32 @@
 -- Calls: what their steps show, where inlined methods show what methods do.
-use Rattle.std.proofs.Common.{◌≡◌, ℕ, zero, suc, ◌+◌, ◌<◌, ◌≤◌, Bool, true, false, not, List, [], ◌∷◌, ◌++◌, Option, Some, None, refl, sym, ◌∙◌, ap, subst, arith}
-use Rattle.std.specs.Prelude.{◌||◌, ℤ, pos, nat_lt, if◌then◌else◌, option_and_then, option_map, map, length, slice_get}
+use Rattle.std.proofs.Common.{◌≡◌, ℕ, ◌+◌, ◌<◌, ◌≤◌, Bool, true, false, List, [], ◌∷◌, ◌++◌, Option, Some, None, refl, sym, ◌∙◌, ap, subst, arith}
+use Rattle.std.specs.Prelude.{◌||◌, option_and_then, map}
 use Rattle.std.proofs.lemmas.Bool.{false≢true}
-use Rattle.std.proofs.lemmas.Bool.Decides.{nat_tests}
 use Rattle.taco_unit.specs.declared.kind.Kind.{Kind}
 use Rattle.taco_unit.specs.declared.kind.Kind.TheVariants as kind
-use Rattle.taco_unit.specs.declared.expr.Op.{Op}
-use Rattle.taco_unit.specs.declared.expr.Op.TheVariants as op
-use Rattle.taco_unit.specs.declared.unit.ClassDef.{ClassDef}
 use Rattle.heap_core.specs.declared.value.Value.{Value}
 use Rattle.heap_core.specs.declared.value.Value.TheVariants.{Null, Obj, Num, Flag}
-use Rattle.heap_core.specs.declared.value.Object.{Object}
-use Rattle.heap_core.specs.declared.value.Seen.{Seen}
-use Rattle.heap_core.specs.declared.value.Seen.TheVariants.{Is, Bad, Out}
 use Rattle.heap_core.specs.Posed.{Posed}
-use Rattle.heap_core.specs.Outcomes.{number, value_in, on_number, negative, opposite, operated, same}
-use Rattle.heap_core.specs.Heap.{Heap, cell, cell_of, field, grown}
-use Rattle.heap_core.specs.Exec.{Memory, Ends, Gives, Throws, Leaves, Frame, Code, then_with, ends_as, on_test, then_test, as_test, on_object, gives_in, read, make, with_heap, combined}
-use Rattle.dyn_core.specs.declared.prog.Act.{Act}
-use Rattle.dyn_core.specs.declared.prog.Act.TheVariants.{Copy, Const, Diff, Same, Read, Make}
+use Rattle.heap_core.specs.Exec.{Memory, Ends, Gives, Throws, Leaves, Frame, Code, then_with, on_object, gives_in}
+use Rattle.dyn_core.specs.declared.prog.Act.TheVariants.{Copy}
 use Rattle.dyn_core.specs.declared.state.DynState.{DynState}
-use Rattle.dyn_core.specs.States.{var_at, with_var}
-use Rattle.dyn_core.specs.Actions.{with_given, acted}
+use Rattle.dyn_core.specs.States.{var_at}
 use Rattle.dyn_core.proofs.Vars.{var_set}
 use Rattle.dyn_plan.specs.declared.plan.Plan.{Plan}
 use Rattle.dyn_plan.specs.declared.plan.Plan.TheVariants as l
-use Rattle.dyn_plan.specs.Plans.{by_flag, next, go}
-use Rattle.dyn_plan.specs.Places.{Ground, Spots, width, slot, behind, flag_of, is_receiver}
-use Rattle.dyn_plan.specs.Guards.{Lowered, guarded, nowhere, at_once, in_place, null_at, through}
-use Rattle.dyn_plan.specs.Expressions.{Low, class_of_field, kind_of_field, kind_of_op, operand_kind, operation, behind_both, after_both, as_truth, short, combined_low, after_one, read_low, found, this_low}
-use Rattle.dyn_plan.proofs.PlanForms.{next_do, next_if, next_fail}
-use Rattle.dyn_plan.proofs.Shown.{set, IsKept, kept_set, kept_same, kept_then, Stands, moving, Remembers, ThisIs, HasFlags, IsFrame, IsOpen, IsReady, Each, HasGiven, HasThrown, Shows, weaker, shows_from, then_shows, ready_on, go_one, go_append, Skips, skips_both, guard_skips, guard_opens}
-use Rattle.dyn_plan.proofs.Operations.{IsDefined, number_defined, opposite_defined, negative_defined, go_do, did, did_both, operation_shows, NullThere, null_there, same_false, same_defined}
-use Rattle.dyn_plan.proofs.NullTests.{OnObject, through_shows}
+use Rattle.dyn_plan.specs.Plans.{go}
+use Rattle.dyn_plan.specs.Places.{Ground, Spots, width, slot, behind}
+use Rattle.dyn_plan.specs.Guards.{Lowered, guarded, through}
+use Rattle.dyn_plan.specs.Expressions.{Low}
+use Rattle.dyn_plan.proofs.PlanForms.{next_do}
+use Rattle.dyn_plan.proofs.Shown.{set, IsKept, kept_set, kept_same, kept_then, Remembers, ThisIs, HasFlags, IsFrame, IsOpen, IsReady, Each, HasGiven, Shows, weaker, shows_from, then_shows, ready_on, go_one, go_append, Skips, skips_both, guard_skips, guard_opens}
+use Rattle.dyn_plan.proofs.NullTests.{through_shows}
 use Rattle.heap_core.proofs.FieldLaws.{none_some, some_same}
 use Rattle.heap_core.specs.Exec.{Run, in_order, target_of, entered}
 use Rattle.dyn_plan.specs.Places.{first_kind, later_kinds}
-use Rattle.dyn_plan.specs.Expressions.{Inline, Arguments, Target, kind_or, class_of_method, kinds_of_params, kind_of_result, arguments_low, target_low, entered_low, can_be_null, with_value_at, run_low, with_arguments, with_target}
+use Rattle.dyn_plan.specs.Expressions.{Inline, Arguments, Target, kind_or, class_of_method, kinds_of_params, kind_of_result, arguments_low, target_low, entered_low, can_be_null, with_value_at, with_target}
 use Rattle.dyn_plan.proofs.Shown.{open_on, skips_none}
-use Rattle.dyn_plan.proofs.ExprShown.{slot_below, behind_above, or_left, or_right, Claim, operand_then, stays, goes_nowhere, given_from}
+use Rattle.dyn_plan.proofs.ExprShown.{behind_above, or_left, or_right, Claim, operand_then, given_from}
 
 -- ## what a call gives
 

@@ -1,50 +1,36 @@
 -- Each expression and each call of code shows what it does, where inlined methods do.
-use Rattle.std.proofs.Common.{◌≡◌, ℕ, zero, suc, ◌+◌, ◌<◌, ◌≤◌, Bool, true, false, not, List, [], ◌∷◌, ◌++◌, Option, Some, None, refl, sym, ◌∙◌, ap, subst, arith}
-use Rattle.std.specs.Prelude.{◌||◌, ℤ, pos, nat_lt, if◌then◌else◌, option_and_then, option_map, map, length, slice_get}
-use Rattle.std.proofs.lemmas.Bool.{false≢true}
+use Rattle.std.proofs.Common.{◌≡◌, ℕ, ◌+◌, ◌<◌, ◌≤◌, Bool, true, false, List, [], ◌∷◌, Option, Some, None, refl, sym, ◌∙◌, ap, subst, arith}
+use Rattle.std.specs.Prelude.{nat_lt, if◌then◌else◌, option_map, map, length, slice_get}
 use Rattle.std.proofs.lemmas.Bool.Decides.{nat_tests}
 use Rattle.taco_unit.specs.declared.kind.Kind.{Kind}
 use Rattle.taco_unit.specs.declared.kind.Kind.TheVariants as kind
 use Rattle.taco_unit.specs.declared.expr.Op.{Op}
 use Rattle.taco_unit.specs.declared.expr.Op.TheVariants as op
-use Rattle.taco_unit.specs.declared.unit.ClassDef.{ClassDef}
-use Rattle.heap_core.specs.declared.value.Value.{Value}
-use Rattle.heap_core.specs.declared.value.Value.TheVariants.{Null, Obj, Num, Flag}
-use Rattle.heap_core.specs.declared.value.Object.{Object}
-use Rattle.heap_core.specs.declared.value.Seen.{Seen}
-use Rattle.heap_core.specs.declared.value.Seen.TheVariants.{Is, Bad, Out}
+use Rattle.heap_core.specs.declared.value.Value.TheVariants.{Null, Num, Flag}
 use Rattle.heap_core.specs.Posed.{Posed}
-use Rattle.heap_core.specs.Outcomes.{number, value_in, on_number, negative, opposite, operated, same}
-use Rattle.heap_core.specs.Heap.{Heap, cell, cell_of, field, grown}
-use Rattle.heap_core.specs.Exec.{Memory, Ends, Gives, Throws, Leaves, Frame, Code, then_with, ends_as, on_test, then_test, as_test, on_object, gives_in, read, make, with_heap, combined}
-use Rattle.dyn_core.specs.declared.prog.Act.{Act}
-use Rattle.dyn_core.specs.declared.prog.Act.TheVariants.{Copy, Const, Diff, Same, Read, Make}
-use Rattle.dyn_core.specs.declared.state.DynState.{DynState}
-use Rattle.dyn_core.specs.States.{var_at, with_var}
-use Rattle.dyn_core.specs.Actions.{with_given, acted}
-use Rattle.dyn_core.proofs.Vars.{var_set}
-use Rattle.dyn_plan.specs.declared.plan.Plan.{Plan}
-use Rattle.dyn_plan.specs.declared.plan.Plan.TheVariants as l
-use Rattle.dyn_plan.specs.Plans.{by_flag, next, go}
-use Rattle.dyn_plan.specs.Places.{Ground, Spots, width, slot, behind, flag_of, is_receiver}
-use Rattle.dyn_plan.specs.Guards.{Lowered, guarded, nowhere, at_once, in_place, null_at, through}
-use Rattle.dyn_plan.specs.Expressions.{Low, class_of_field, kind_of_field, kind_of_op, operand_kind, operation, behind_both, after_both, as_truth, short, combined_low, after_one, read_low, found, this_low}
-use Rattle.dyn_plan.proofs.PlanForms.{next_do, next_if, next_fail}
-use Rattle.dyn_plan.proofs.Shown.{set, IsKept, kept_set, kept_same, kept_then, Stands, moving, Remembers, ThisIs, HasFlags, IsFrame, IsOpen, IsReady, Each, HasGiven, HasThrown, Shows, weaker, shows_from, then_shows, ready_on, go_one, go_append, Skips, skips_both, guard_skips, guard_opens}
-use Rattle.dyn_plan.proofs.Operations.{IsDefined, number_defined, opposite_defined, negative_defined, go_do, did, did_both, operation_shows, NullThere, null_there, same_false, same_defined}
-use Rattle.dyn_plan.proofs.NullTests.{OnObject, through_shows}
+use Rattle.heap_core.specs.Outcomes.{number, negative, opposite, operated, same}
+use Rattle.heap_core.specs.Exec.{Memory, Gives, Leaves, Frame, Code, then_with, ends_as, on_object, gives_in, read, make, combined}
+use Rattle.dyn_core.specs.declared.prog.Act.TheVariants.{Const, Diff, Same}
+use Rattle.dyn_core.specs.States.{var_at}
+use Rattle.dyn_core.specs.Actions.{with_given}
+use Rattle.dyn_plan.specs.Plans.{go}
+use Rattle.dyn_plan.specs.Places.{Ground, Spots, width, slot, flag_of}
+use Rattle.dyn_plan.specs.Guards.{Lowered, nowhere, at_once, in_place, null_at}
+use Rattle.dyn_plan.specs.Expressions.{Low, kind_of_field, combined_low, this_low}
+use Rattle.dyn_plan.proofs.Shown.{moving, IsFrame, HasGiven, Shows}
+use Rattle.dyn_plan.proofs.Operations.{number_defined, opposite_defined, negative_defined, did, same_false}
 use Rattle.taco_unit.specs.declared.expr.Expr.{Expr, ind-Expr, roll-Expr, map-Expr}
 use Rattle.taco_unit.specs.declared.expr.Expr.TheOpen.{Expr-F, Call-F}
 use Rattle.taco_unit.specs.declared.expr.Quant.{Quant}
 use Rattle.taco_unit.specs.declared.expr.Reach.{Reach}
 use Rattle.taco_unit.specs.declared.expr.Call.{Call, out-Call, roll-Call, map-Call}
 use Rattle.taco_unit.specs.declared.expr.Expr.TheVariants as e
-use Rattle.heap_core.specs.Exec.{Run, code, call_of, in_order, target_of, entered}
+use Rattle.heap_core.specs.Exec.{Run, code, call_of}
 use Rattle.heap_core.proofs.ExecForms.{code_num, code_flag, code_null, code_this, code_local, code_read, code_neg, code_not, code_bin, code_new, code_call, code_result, code_bound, code_quant, code_old, code_has, code_size, call_form}
 use Rattle.dyn_plan.specs.Places.{zero_number}
-use Rattle.dyn_plan.specs.Expressions.{LowCall, Inline, kind_or, class_of_method, kind_of_result, target_low, with_target, expr_step, called_low, low_expr, low_call}
+use Rattle.dyn_plan.specs.Expressions.{Inline, kind_or, class_of_method, kind_of_result, target_low, with_target, expr_step, low_expr, low_call}
 use Rattle.dyn_plan.proofs.LowForms.{is_num, is_flag, is_null, is_this, is_result, is_local, is_bound, is_read, is_neg, is_not, is_bin, is_quant, is_old, is_has, is_size, is_new, is_call, is_called}
-use Rattle.dyn_plan.proofs.ExprShown.{slot_below, behind_above, Claim, stays, goes_nowhere}
+use Rattle.dyn_plan.proofs.ExprShown.{slot_below, Claim, stays, goes_nowhere}
 use Rattle.dyn_plan.proofs.FormShown.{null_shows, this_shows, found_near, local_shows, neg_is, one_shows, read_shows, make_shows, combined_shows}
 use Rattle.dyn_plan.proofs.CallShown.{as_wanted, CallResult, Inlines, CallClaim, call_gives, Claims, TargetClaim, called_shows}
 

@@ -1,38 +1,26 @@
 -- Expressions without calls: what their steps show.
-use Rattle.std.proofs.Common.{◌≡◌, ℕ, zero, suc, ◌+◌, ◌<◌, ◌≤◌, Bool, true, false, not, List, [], ◌∷◌, ◌++◌, Option, Some, None, refl, sym, ◌∙◌, ap, subst, arith}
-use Rattle.std.specs.Prelude.{◌||◌, ℤ, pos, nat_lt, if◌then◌else◌, option_and_then, option_map, map, length, slice_get}
+use Rattle.std.proofs.Common.{◌≡◌, ℕ, ◌+◌, ◌<◌, ◌≤◌, Bool, true, false, List, [], ◌∷◌, ◌++◌, Some, refl, sym, ◌∙◌, subst, arith}
+use Rattle.std.specs.Prelude.{◌||◌, nat_lt, if◌then◌else◌, length}
 use Rattle.std.proofs.lemmas.Bool.{false≢true}
 use Rattle.std.proofs.lemmas.Bool.Decides.{nat_tests}
 use Rattle.taco_unit.specs.declared.kind.Kind.{Kind}
 use Rattle.taco_unit.specs.declared.kind.Kind.TheVariants as kind
 use Rattle.taco_unit.specs.declared.expr.Op.{Op}
-use Rattle.taco_unit.specs.declared.expr.Op.TheVariants as op
-use Rattle.taco_unit.specs.declared.unit.ClassDef.{ClassDef}
 use Rattle.heap_core.specs.declared.value.Value.{Value}
-use Rattle.heap_core.specs.declared.value.Value.TheVariants.{Null, Obj, Num, Flag}
-use Rattle.heap_core.specs.declared.value.Object.{Object}
-use Rattle.heap_core.specs.declared.value.Seen.{Seen}
-use Rattle.heap_core.specs.declared.value.Seen.TheVariants.{Is, Bad, Out}
 use Rattle.heap_core.specs.Posed.{Posed}
-use Rattle.heap_core.specs.Outcomes.{number, value_in, on_number, negative, opposite, operated, same}
-use Rattle.heap_core.specs.Heap.{Heap, cell, cell_of, field, grown}
-use Rattle.heap_core.specs.Exec.{Memory, Ends, Gives, Throws, Leaves, Frame, Code, then_with, ends_as, on_test, then_test, as_test, on_object, gives_in, read, make, with_heap, combined}
-use Rattle.dyn_core.specs.declared.prog.Act.{Act}
-use Rattle.dyn_core.specs.declared.prog.Act.TheVariants.{Copy, Const, Diff, Same, Read, Make}
+use Rattle.heap_core.specs.Outcomes.{operated}
+use Rattle.heap_core.specs.Exec.{Memory, Ends, Gives, Leaves, Frame, Code, then_with, ends_as}
 use Rattle.dyn_core.specs.declared.state.DynState.{DynState}
-use Rattle.dyn_core.specs.States.{var_at, with_var}
-use Rattle.dyn_core.specs.Actions.{with_given, acted}
-use Rattle.dyn_core.proofs.Vars.{var_set}
+use Rattle.dyn_core.specs.States.{var_at}
 use Rattle.dyn_plan.specs.declared.plan.Plan.{Plan}
 use Rattle.dyn_plan.specs.declared.plan.Plan.TheVariants as l
-use Rattle.dyn_plan.specs.Plans.{by_flag, next, go}
-use Rattle.dyn_plan.specs.Places.{Ground, Spots, width, slot, behind, flag_of, is_receiver}
-use Rattle.dyn_plan.specs.Guards.{Lowered, guarded, nowhere, at_once, in_place, null_at, through}
-use Rattle.dyn_plan.specs.Expressions.{Low, class_of_field, kind_of_field, kind_of_op, operand_kind, operation, behind_both, after_both, as_truth, short, combined_low, after_one, read_low, found, this_low}
-use Rattle.dyn_plan.proofs.PlanForms.{next_do, next_if, next_fail}
-use Rattle.dyn_plan.proofs.Shown.{set, IsKept, kept_set, kept_same, kept_then, Stands, moving, Remembers, ThisIs, HasFlags, IsFrame, IsOpen, IsReady, Each, HasGiven, HasThrown, Shows, weaker, shows_from, then_shows, ready_on, go_one, go_append, Skips, skips_both, guard_skips, guard_opens}
-use Rattle.dyn_plan.proofs.Operations.{IsDefined, number_defined, opposite_defined, negative_defined, go_do, did, did_both, operation_shows, NullThere, null_there, same_false, same_defined}
-use Rattle.dyn_plan.proofs.NullTests.{OnObject, through_shows}
+use Rattle.dyn_plan.specs.Plans.{go}
+use Rattle.dyn_plan.specs.Places.{Ground, Spots, width, slot, behind}
+use Rattle.dyn_plan.specs.Guards.{Lowered, guarded}
+use Rattle.dyn_plan.specs.Expressions.{Low, kind_of_op, operation, behind_both, after_both}
+use Rattle.dyn_plan.proofs.PlanForms.{next_fail}
+use Rattle.dyn_plan.proofs.Shown.{IsKept, kept_same, kept_then, moving, Remembers, IsFrame, IsReady, HasGiven, Shows, shows_from, then_shows, ready_on, go_one, Skips, skips_both, guard_skips, guard_opens}
+use Rattle.dyn_plan.proofs.Operations.{operation_shows}
 
 -- ## rows
 

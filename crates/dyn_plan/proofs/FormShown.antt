@@ -1,8 +1,6 @@
 -- The forms of expressions without calls: each shows its value.
-use Rattle.std.proofs.Common.{◌≡◌, ℕ, zero, suc, ◌+◌, ◌<◌, ◌≤◌, Bool, true, false, not, List, [], ◌∷◌, ◌++◌, Option, Some, None, refl, sym, ◌∙◌, ap, subst, arith}
-use Rattle.std.specs.Prelude.{◌||◌, ℤ, pos, nat_lt, if◌then◌else◌, option_and_then, option_map, map, length, slice_get}
-use Rattle.std.proofs.lemmas.Bool.{false≢true}
-use Rattle.std.proofs.lemmas.Bool.Decides.{nat_tests}
+use Rattle.std.proofs.Common.{◌≡◌, ℕ, zero, suc, ◌+◌, ◌<◌, ◌≤◌, Bool, true, false, not, List, [], ◌∷◌, Option, Some, None, refl, sym, ◌∙◌, ap, subst, arith}
+use Rattle.std.specs.Prelude.{◌||◌, pos, if◌then◌else◌, option_and_then, option_map, length, slice_get}
 use Rattle.taco_unit.specs.declared.kind.Kind.{Kind}
 use Rattle.taco_unit.specs.declared.kind.Kind.TheVariants as kind
 use Rattle.taco_unit.specs.declared.expr.Op.{Op}
@@ -12,33 +10,32 @@ use Rattle.heap_core.specs.declared.value.Value.{Value}
 use Rattle.heap_core.specs.declared.value.Value.TheVariants.{Null, Obj, Num, Flag}
 use Rattle.heap_core.specs.declared.value.Object.{Object}
 use Rattle.heap_core.specs.declared.value.Seen.{Seen}
-use Rattle.heap_core.specs.declared.value.Seen.TheVariants.{Is, Bad, Out}
+use Rattle.heap_core.specs.declared.value.Seen.TheVariants.{Is}
 use Rattle.heap_core.specs.Posed.{Posed}
-use Rattle.heap_core.specs.Outcomes.{number, value_in, on_number, negative, opposite, operated, same}
+use Rattle.heap_core.specs.Outcomes.{number, value_in, negative, operated, same}
 use Rattle.heap_core.specs.Heap.{Heap, cell, cell_of, field, grown}
-use Rattle.heap_core.specs.Exec.{Memory, Ends, Gives, Throws, Leaves, Frame, Code, then_with, ends_as, on_test, then_test, as_test, on_object, gives_in, read, make, with_heap, combined}
+use Rattle.heap_core.specs.Exec.{Memory, Ends, Gives, Frame, Code, then_with, ends_as, on_test, then_test, as_test, on_object, gives_in, read, make, with_heap, combined}
 use Rattle.dyn_core.specs.declared.prog.Act.{Act}
-use Rattle.dyn_core.specs.declared.prog.Act.TheVariants.{Copy, Const, Diff, Same, Read, Make}
+use Rattle.dyn_core.specs.declared.prog.Act.TheVariants.{Const, Same, Read, Make}
 use Rattle.dyn_core.specs.declared.state.DynState.{DynState}
 use Rattle.dyn_core.specs.States.{var_at, with_var}
 use Rattle.dyn_core.specs.Actions.{with_given, acted}
 use Rattle.dyn_core.proofs.Vars.{var_set}
 use Rattle.dyn_plan.specs.declared.plan.Plan.{Plan}
 use Rattle.dyn_plan.specs.declared.plan.Plan.TheVariants as l
-use Rattle.dyn_plan.specs.Plans.{by_flag, next, go}
+use Rattle.dyn_plan.specs.Plans.{by_flag, go}
 use Rattle.dyn_plan.specs.Places.{Ground, Spots, width, slot, behind, flag_of, is_receiver}
-use Rattle.dyn_plan.specs.Guards.{Lowered, guarded, nowhere, at_once, in_place, null_at, through}
-use Rattle.dyn_plan.specs.Expressions.{Low, class_of_field, kind_of_field, kind_of_op, operand_kind, operation, behind_both, after_both, as_truth, short, combined_low, after_one, read_low, found, this_low}
-use Rattle.dyn_plan.proofs.PlanForms.{next_do, next_if, next_fail}
-use Rattle.dyn_plan.proofs.Shown.{set, IsKept, kept_set, kept_same, kept_then, Stands, moving, Remembers, ThisIs, HasFlags, IsFrame, IsOpen, IsReady, Each, HasGiven, HasThrown, Shows, weaker, shows_from, then_shows, ready_on, go_one, go_append, Skips, skips_both, guard_skips, guard_opens}
-use Rattle.dyn_plan.proofs.Operations.{IsDefined, number_defined, opposite_defined, negative_defined, go_do, did, did_both, operation_shows, NullThere, null_there, same_false, same_defined}
-use Rattle.dyn_plan.proofs.NullTests.{OnObject, through_shows}
+use Rattle.dyn_plan.specs.Guards.{Lowered, guarded, null_at, through}
+use Rattle.dyn_plan.specs.Expressions.{Low, class_of_field, kind_of_field, operand_kind, as_truth, short, combined_low, after_one, read_low, found, this_low}
+use Rattle.dyn_plan.proofs.PlanForms.{next_do, next_if}
+use Rattle.dyn_plan.proofs.Shown.{IsKept, kept_set, kept_same, kept_then, Stands, moving, Remembers, ThisIs, IsFrame, IsReady, Each, HasGiven, Shows, weaker, shows_from, go_one, guard_skips, guard_opens}
+use Rattle.dyn_plan.proofs.Operations.{IsDefined, did, null_there, same_defined}
+use Rattle.dyn_plan.proofs.NullTests.{through_shows}
 use Rattle.std.proofs.lemmas.Option.{slice_get-map}
 use Rattle.heap_core.proofs.FieldLaws.{none_some, some_same}
 use Rattle.std.proofs.Math.IntN.{+ℤ_idl}
-use Rattle.std.specs.Prelude.{◌-ℤ◌, neg_ℤ}
-use Rattle.dyn_plan.specs.Places.{zero_number}
-use Rattle.dyn_plan.proofs.ExprShown.{slot_below, behind_above, or_left, or_right, Claim, operand_then, stays, goes_nowhere, given_from, both_claim}
+use Rattle.std.specs.Prelude.{neg_ℤ}
+use Rattle.dyn_plan.proofs.ExprShown.{behind_above, or_left, or_right, Claim, operand_then, stays, goes_nowhere, given_from, both_claim}
 
 -- ## leaves
 

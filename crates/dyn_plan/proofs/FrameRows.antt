@@ -1,31 +1,29 @@
 -- The frame of an inlined method: where its variables stand, and what its beginning does.
-use Rattle.std.proofs.Common.{◌≡◌, ℕ, zero, suc, ◌+◌, ◌<◌, ◌≤◌, Bool, true, false, List, [], ◌∷◌, ◌++◌, Option, Some, None, refl, sym, ◌∙◌, ap, subst, arith}
-use Rattle.std.specs.Prelude.{◌==◌, ◌-◌, ◌^◌, nat_lt, pos, if◌then◌else◌, option_and_then, map, length, slice_get}
+use Rattle.std.proofs.Common.{◌≡◌, ℕ, ◌+◌, ◌<◌, ◌≤◌, Bool, true, false, List, [], ◌∷◌, ◌++◌, Option, Some, refl, sym, ◌∙◌, ap, arith}
+use Rattle.std.specs.Prelude.{◌==◌, ◌-◌, ◌^◌, nat_lt, pos, if◌then◌else◌, option_and_then, map}
 use Rattle.std.proofs.lemmas.Bool.{false≢true, lt-ltb, eqb-true, eq-eqb}
 use Rattle.std.proofs.lemmas.Nat.{pow_pos}
 use Rattle.taco_unit.specs.declared.kind.Kind.{Kind}
 use Rattle.taco_unit.specs.declared.kind.Kind.TheVariants as kind
 use Rattle.taco_unit.specs.declared.unit.MethodDef.{MethodDef}
 use Rattle.taco_unit.specs.Well.{param_kinds}
-use Rattle.heap_core.proofs.FieldLaws.{none_some, some_same}
 use Rattle.heap_core.specs.declared.value.Value.{Value}
-use Rattle.heap_core.specs.declared.value.Value.TheVariants.{Null, Obj, Num, Flag}
-use Rattle.heap_core.specs.declared.value.Seen.{Seen}
+use Rattle.heap_core.specs.declared.value.Value.TheVariants.{Num, Flag}
 use Rattle.heap_core.specs.declared.value.Seen.TheVariants.{Is, Out}
 use Rattle.heap_core.specs.Posed.{Posed}
-use Rattle.heap_core.specs.Outcomes.{zero_of, number}
+use Rattle.heap_core.specs.Outcomes.{zero_of}
 use Rattle.heap_core.specs.Exec.{Memory, Frame}
 use Rattle.dyn_core.specs.declared.prog.Act.TheVariants.{Copy, Const}
 use Rattle.dyn_core.specs.declared.state.DynState.{DynState}
 use Rattle.dyn_core.specs.States.{var_at, with_var}
-use Rattle.dyn_core.specs.Actions.{with_given, constant, acted}
+use Rattle.dyn_core.specs.Actions.{with_given, constant}
 use Rattle.dyn_core.proofs.Vars.{var_set, var_apart}
 use Rattle.dyn_plan.specs.declared.plan.Plan.{Plan}
 use Rattle.dyn_plan.specs.declared.plan.Plan.TheVariants as l
 use Rattle.dyn_plan.specs.Plans.{go}
 use Rattle.dyn_plan.specs.Places.{Ground, Spots, width, slot, in_rows, past_rows, first_kind, later_kinds, for_each_argument}
-use Rattle.dyn_plan.specs.Frames.{result_of, local_kinds, frame_at, frame_of, fill, prologue}
-use Rattle.dyn_plan.proofs.Shown.{set, IsKept, kept_set, kept_same, kept_then, Stands, stands_on, moving, Remembers, ThisIs, HasFlags, IsFrame, IsOpen, IsReady, Each, Rising, this_on, go_append}
+use Rattle.dyn_plan.specs.Frames.{result_of, local_kinds, frame_of, fill, prologue}
+use Rattle.dyn_plan.proofs.Shown.{set, IsKept, kept_set, kept_same, kept_then, Stands, stands_on, moving, Remembers, ThisIs, IsFrame, IsReady, Each, Rising, this_on, go_append}
 use Rattle.dyn_plan.proofs.Operations.{go_do}
 use Rattle.dyn_plan.proofs.ExprShown.{slot_below}
 

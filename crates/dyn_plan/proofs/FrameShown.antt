@@ -1,34 +1,34 @@
 -- Inlined methods, of every depth, show what methods do.
-use Rattle.std.proofs.Common.{◌≡◌, ℕ, zero, suc, ◌+◌, ◌<◌, ◌≤◌, Bool, true, false, List, [], ◌∷◌, ◌++◌, Option, Some, None, refl, sym, ◌∙◌, ap, subst, arith}
-use Rattle.std.specs.Prelude.{◌||◌, ◌&&◌, option_and_then, option_map, map, slice_get, is_none, if◌then◌else◌}
+use Rattle.std.proofs.Common.{◌≡◌, ℕ, zero, suc, ◌<◌, ◌≤◌, Bool, true, false, List, [], ◌∷◌, ◌++◌, Option, Some, None, refl, sym, ◌∙◌, ap, subst, arith}
+use Rattle.std.specs.Prelude.{◌&&◌, option_and_then, option_map, map, slice_get, is_none, if◌then◌else◌}
 use Rattle.std.proofs.lemmas.Bool.{false≢true}
 use Rattle.taco_unit.specs.declared.kind.Kind.{Kind}
 use Rattle.taco_unit.specs.declared.unit.MethodDef.{MethodDef}
 use Rattle.heap_core.specs.declared.value.Value.{Value}
-use Rattle.heap_core.specs.declared.value.Value.TheVariants.{Null, Obj, Num, Flag}
+use Rattle.heap_core.specs.declared.value.Value.TheVariants.{Flag}
 use Rattle.heap_core.specs.Posed.{Posed}
 use Rattle.heap_core.specs.Outcomes.{zero_of}
-use Rattle.heap_core.specs.Exec.{Memory, Ends, Gives, Throws, Leaves, Exit, Goes, Returns, Raises, Stops, Frame, Run, exec, returned, run_body, calls}
+use Rattle.heap_core.specs.Exec.{Memory, Gives, Throws, Leaves, Exit, Goes, Returns, Raises, Stops, Frame, Run, exec, returned, run_body, calls}
 use Rattle.dyn_core.specs.declared.prog.Act.TheVariants.{Copy}
 use Rattle.dyn_core.specs.declared.state.DynState.{DynState}
-use Rattle.dyn_core.specs.States.{var_at, with_var}
+use Rattle.dyn_core.specs.States.{var_at}
 use Rattle.dyn_core.proofs.Vars.{var_set, var_apart}
 use Rattle.dyn_plan.specs.declared.plan.Plan.{Plan}
 use Rattle.dyn_plan.specs.declared.plan.Plan.TheVariants as l
 use Rattle.dyn_plan.specs.Plans.{go}
 use Rattle.dyn_plan.specs.Places.{Ground, Spots}
-use Rattle.dyn_plan.specs.Guards.{Lowered, guarded}
+use Rattle.dyn_plan.specs.Guards.{guarded}
 use Rattle.dyn_plan.specs.Expressions.{Inline}
 use Rattle.dyn_plan.specs.Statements.{Laid, lay, stops}
-use Rattle.dyn_plan.specs.Frames.{result_of, frame_of, prologue, epilogue, passed_on, in_frame, inline_body, inlined}
+use Rattle.dyn_plan.specs.Frames.{result_of, frame_of, prologue, epilogue, passed_on, inline_body, inlined}
 use Rattle.dyn_plan.proofs.PlanForms.{next_fail}
-use Rattle.dyn_plan.proofs.Shown.{set, IsKept, kept_set, kept_same, kept_then, Stands, moving, Remembers, ThisIs, HasFlags, IsFrame, IsOpen, IsReady, Each, HasGiven, HasThrown, Shows, go_one, go_append, guard_opens, guard_skips}
+use Rattle.dyn_plan.proofs.Shown.{set, IsKept, kept_set, moving, Remembers, ThisIs, HasFlags, IsFrame, IsOpen, Each, HasThrown, Shows, go_one, go_append, guard_opens, guard_skips}
 use Rattle.dyn_plan.proofs.Operations.{go_do}
 use Rattle.dyn_plan.proofs.ExprShown.{or_left, or_right, goes_nowhere}
 use Rattle.dyn_plan.proofs.CallShown.{as_wanted, InlineResult, Inlines}
-use Rattle.dyn_plan.proofs.StmtShown.{exit_wanted, ResultIs, HasReturned, Ended, StmtClaim}
+use Rattle.dyn_plan.proofs.StmtShown.{exit_wanted, Ended}
 use Rattle.dyn_plan.proofs.StmtAll.{stmt_shows}
-use Rattle.dyn_plan.proofs.FrameRows.{frame_is, Begun, begins, set_same}
+use Rattle.dyn_plan.proofs.FrameRows.{frame_is, begins, set_same}
 
 -- ## the caller's flags
 

@@ -7,7 +7,7 @@ use Rattle.taco_unit.specs.declared.expr.Expr.{Expr, fold_out-Expr}
 use Rattle.taco_unit.specs.declared.expr.Call.{Call, fold_out-Call, out-Call, map-Call}
 use Rattle.taco_unit.specs.declared.expr.Quant.{Quant, fold-Quant}
 use Rattle.taco_unit.specs.declared.expr.Reach.{Reach, fold-Reach}
-use Rattle.taco_unit.specs.declared.expr.Expr.TheOpen.{Expr-F, Call-F}
+use Rattle.taco_unit.specs.declared.expr.Expr.TheOpen.{Expr-F}
 use Rattle.taco_unit.specs.declared.expr.Expr.TheVariants as e
 use Rattle.taco_unit.specs.declared.stmt.Stmt.{Stmt, fold_out-Stmt}
 use Rattle.taco_unit.specs.declared.stmt.Stmt.TheOpen.{Stmt-F}
@@ -18,7 +18,7 @@ use Rattle.dyn_plan.specs.declared.plan.Plan.TheVariants as l
 use Rattle.dyn_plan.specs.Places.{Ground, Spots}
 use Rattle.dyn_plan.specs.Expressions.{Low, LowCall, Inline, kind_step, low_step, expr_step, called_low, low_expr, low_call}
 use Rattle.dyn_plan.specs.Statements.{Lay, lay_step, lay}
-use Rattle.dyn_plan.specs.Whole.{greatest_in, greatest_of_act, greatest_step, greatest}
+use Rattle.dyn_plan.specs.Whole.{greatest_of_act, greatest_step, greatest}
 
 -- ## expressions
 

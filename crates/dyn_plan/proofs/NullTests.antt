@@ -1,16 +1,14 @@
 -- What throws and tests for null show.
-use Rattle.std.proofs.Common.{◌≡◌, ℕ, ◌+◌, ◌<◌, ◌≤◌, Bool, true, false, not, List, [], ◌∷◌, ◌++◌, Option, Some, None, refl, sym, ◌∙◌, ap, subst, arith}
+use Rattle.std.proofs.Common.{◌≡◌, ℕ, ◌+◌, ◌<◌, ◌≤◌, Bool, true, false, not, List, [], ◌∷◌, Option, Some, None, refl, sym, ◌∙◌, ap, subst, arith}
 use Rattle.std.specs.Prelude.{◌==◌, if◌then◌else◌, option_and_then}
 use Rattle.std.specs.Option.{option_map_or}
 use Rattle.std.proofs.lemmas.Bool.{false≢true, eqb-true}
 use Rattle.taco_unit.specs.declared.kind.Kind.TheVariants as kind
 use Rattle.heap_core.specs.declared.value.Value.{Value}
 use Rattle.heap_core.specs.declared.value.Value.TheVariants.{Null, Obj, Num, Flag}
-use Rattle.heap_core.specs.declared.value.Seen.{Seen}
-use Rattle.heap_core.specs.declared.value.Seen.TheVariants.{Is, Bad, Out}
 use Rattle.heap_core.specs.Posed.{Posed}
 use Rattle.heap_core.specs.Outcomes.{same}
-use Rattle.heap_core.specs.Exec.{Memory, Ends, Gives, Throws, Leaves, on_object}
+use Rattle.heap_core.specs.Exec.{Memory, Ends, Throws, on_object}
 use Rattle.dyn_core.specs.declared.prog.Act.TheVariants.{Const, Same}
 use Rattle.dyn_core.specs.declared.state.DynState.{DynState}
 use Rattle.dyn_core.specs.States.{var_at, with_var}
@@ -18,11 +16,11 @@ use Rattle.dyn_core.specs.Actions.{with_given}
 use Rattle.dyn_core.proofs.Vars.{var_set, var_apart}
 use Rattle.dyn_plan.specs.declared.plan.Plan.{Plan}
 use Rattle.dyn_plan.specs.declared.plan.Plan.TheVariants as l
-use Rattle.dyn_plan.specs.Plans.{by_flag, next, go}
-use Rattle.dyn_plan.specs.Places.{Ground, Spots, width, is_receiver}
+use Rattle.dyn_plan.specs.Plans.{by_flag, go}
+use Rattle.dyn_plan.specs.Places.{Ground, Spots, is_receiver}
 use Rattle.dyn_plan.specs.Guards.{throw, null_at, null_test, through}
-use Rattle.dyn_plan.proofs.PlanForms.{next_do, next_if}
-use Rattle.dyn_plan.proofs.Shown.{set, IsKept, kept_set, kept_same, kept_then, Stands, moving, Remembers, ThisIs, HasFlags, IsOpen, HasGiven, HasThrown, Shows, go_one, go_append}
+use Rattle.dyn_plan.proofs.PlanForms.{next_if}
+use Rattle.dyn_plan.proofs.Shown.{set, IsKept, kept_set, kept_same, kept_then, Remembers, ThisIs, HasFlags, IsOpen, Shows, go_one, go_append}
 use Rattle.dyn_plan.proofs.Operations.{go_do, NullThere, null_there}
 
 -- the frame throws

@@ -1,11 +1,7 @@
 -- What single actions, operators and tests for null show.
-use Rattle.std.proofs.Common.{◌≡◌, ℕ, ◌+◌, ◌<◌, ◌≤◌, Bool, true, false, not, List, [], ◌∷◌, ◌++◌, Option, Some, None, refl, sym, ◌∙◌, ap, subst, arith}
-use Rattle.std.specs.Prelude.{◌==◌, ◌-◌, ◌^◌, nat_lt, nat_le, if◌then◌else◌, ℤ, pos, negsuc, ◌-ℤ◌, neg_ℤ, int_lt, int_le, length, option_and_then, map}
-use Rattle.std.specs.Option.{option_map_or}
-use Rattle.std.proofs.lemmas.Bool.{false≢true, lt-ltb}
+use Rattle.std.proofs.Common.{◌≡◌, ℕ, ◌+◌, ◌<◌, ◌≤◌, Bool, true, false, not, List, [], ◌∷◌, Option, Some, refl, sym, ◌∙◌, ap, subst, arith}
+use Rattle.std.specs.Prelude.{nat_lt, nat_le, if◌then◌else◌, ℤ, pos, negsuc, neg_ℤ, int_lt, int_le, length, option_and_then}
 use Rattle.std.proofs.lemmas.Bool.Decides.{nat_tests}
-use Rattle.std.proofs.lemmas.Nat.{pow_pos}
-use Rattle.std.proofs.Math.IntN.{+ℤ_idl}
 use Rattle.taco_unit.specs.declared.kind.Kind.{Kind}
 use Rattle.taco_unit.specs.declared.kind.Kind.TheVariants as kind
 use Rattle.taco_unit.specs.declared.expr.Op.{Op}
@@ -15,22 +11,22 @@ use Rattle.heap_core.specs.declared.value.Value.TheVariants.{Null, Obj, Num, Fla
 use Rattle.heap_core.specs.declared.value.Seen.{Seen}
 use Rattle.heap_core.specs.declared.value.Seen.TheVariants.{Is, Bad, Out}
 use Rattle.heap_core.specs.Posed.{Posed}
-use Rattle.heap_core.specs.Outcomes.{in_bits, number, flag, with_value, on_number, on_numbers, on_flag, same, same_flag, opposite, negative, equivalent, operated}
-use Rattle.heap_core.specs.Exec.{Memory, Ends, Gives, Throws, Leaves, Frame, then_with, ends_as, on_object}
+use Rattle.heap_core.specs.Outcomes.{in_bits, number, flag, with_value, on_numbers, same, opposite, negative, equivalent, operated}
+use Rattle.heap_core.specs.Exec.{Memory, Leaves, ends_as}
 use Rattle.dyn_core.specs.declared.prog.Act.{Act}
-use Rattle.dyn_core.specs.declared.prog.Act.TheVariants.{Copy, Const, Sum, Diff, Product, Same, Below}
+use Rattle.dyn_core.specs.declared.prog.Act.TheVariants.{Const, Sum, Diff, Product, Same, Below}
 use Rattle.dyn_core.specs.declared.state.DynState.{DynState}
 use Rattle.dyn_core.specs.States.{var_at, with_var}
 use Rattle.dyn_core.specs.Actions.{with_given, acted}
 use Rattle.dyn_core.proofs.Vars.{var_set, var_apart}
 use Rattle.dyn_plan.specs.declared.plan.Plan.{Plan}
 use Rattle.dyn_plan.specs.declared.plan.Plan.TheVariants as l
-use Rattle.dyn_plan.specs.Plans.{by_flag, next, go}
-use Rattle.dyn_plan.specs.Places.{Ground, Spots, width, flag_of, is_receiver}
-use Rattle.dyn_plan.specs.Guards.{Lowered, throw, null_at, null_test, through}
+use Rattle.dyn_plan.specs.Plans.{go}
+use Rattle.dyn_plan.specs.Places.{Ground, Spots, width, flag_of}
+use Rattle.dyn_plan.specs.Guards.{Lowered, null_at}
 use Rattle.dyn_plan.specs.Expressions.{operation}
-use Rattle.dyn_plan.proofs.PlanForms.{next_do, next_if, next_fail}
-use Rattle.dyn_plan.proofs.Shown.{set, IsKept, kept_set, kept_same, kept_then, Stands, stands_on, moving, Remembers, ThisIs, HasFlags, HasGiven, HasThrown, Shows, shows_from, go_one, go_append}
+use Rattle.dyn_plan.proofs.PlanForms.{next_do, next_fail}
+use Rattle.dyn_plan.proofs.Shown.{set, kept_set, kept_same, kept_then, Stands, stands_on, moving, Remembers, HasGiven, Shows, go_one}
 
 -- ## one action
 

@@ -20,14 +20,12 @@ use Rattle.heap_core.specs.declared.value.Object.{Object}
 use Rattle.heap_core.specs.declared.start.Start.{Start}
 use Rattle.heap_core.specs.Heap.{Heap}
 use Rattle.heap_core.specs.Posed.{Posed}
-use Rattle.dyn_core.specs.declared.prog.Act.TheVariants.{Copy, Const, Sum, Same, Below, Read, Write, Make}
+use Rattle.dyn_core.specs.declared.prog.Act.TheVariants.{Const}
 use Rattle.dyn_core.specs.declared.state.DynState.{DynState}
 use Rattle.dyn_core.specs.States.{var_at}
 use Rattle.dyn_plan.specs.Plans.{go}
-use Rattle.dyn_plan.specs.declared.plan.Plan.{Plan}
 use Rattle.dyn_plan.specs.declared.plan.Plan.TheVariants as l
 use Rattle.dyn_plan.specs.Places.{Ground, Spots}
-use Rattle.dyn_plan.specs.Guards.{set_done}
 use Rattle.dyn_plan.specs.Statements.{Laid, lay}
 use Rattle.dyn_plan.specs.Frames.{frame_of, in_frame, inlined}
 use Rattle.dyn_plan.specs.Whole.{ground, outer_frame, run_inside, rows_up_to, zeros_but}

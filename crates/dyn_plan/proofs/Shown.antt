@@ -1,8 +1,7 @@
 -- What steps show of an evaluation: the relations, and how parts are put together.
 use Rattle.std.proofs.Common.{◌≡◌, ℕ, ◌+◌, ◌<◌, ◌≤◌, Bool, true, false, List, [], ◌∷◌, ◌++◌, Option, Some, None, refl, sym, ◌∙◌, ap, subst, arith}
-use Rattle.std.specs.Prelude.{◌==◌, ◌||◌, pos, map, length, option_and_then}
-use Rattle.std.specs.Option.{option_map_or}
-use Rattle.std.proofs.lemmas.Bool.{false≢true, eqb-true}
+use Rattle.std.specs.Prelude.{pos, map, length, option_and_then}
+use Rattle.std.proofs.lemmas.Bool.{false≢true}
 use Rattle.heap_core.specs.declared.value.Value.{Value}
 use Rattle.heap_core.specs.declared.value.Value.TheVariants.{Null, Obj, Num, Flag}
 use Rattle.heap_core.specs.Posed.{Posed}
@@ -10,11 +9,11 @@ use Rattle.heap_core.specs.Outcomes.{zero_of}
 use Rattle.heap_core.specs.Exec.{Memory, Ends, Gives, Throws, Leaves, Frame, then_with}
 use Rattle.dyn_core.specs.declared.state.DynState.{DynState}
 use Rattle.dyn_core.specs.States.{var_at, with_var}
-use Rattle.dyn_core.proofs.Vars.{var_set, var_apart}
+use Rattle.dyn_core.proofs.Vars.{var_apart}
 use Rattle.dyn_plan.specs.declared.plan.Plan.{Plan}
 use Rattle.dyn_plan.specs.declared.plan.Plan.TheVariants as l
-use Rattle.dyn_plan.specs.Plans.{Next, in_line, by_flag, next, go}
-use Rattle.dyn_plan.specs.Places.{Ground, Spots, width, flag_of, is_receiver}
+use Rattle.dyn_plan.specs.Plans.{Next, by_flag, next, go}
+use Rattle.dyn_plan.specs.Places.{Ground, Spots, width, flag_of}
 use Rattle.dyn_plan.specs.Guards.{guarded}
 use Rattle.dyn_plan.proofs.PlanForms.{next_if}
 

@@ -1,5 +1,5 @@
 -- Each statement shows what it does, where inlined methods do.
-use Rattle.std.proofs.Common.{◌≡◌, ℕ, ◌≤◌, Bool, true, false, List, [], ◌∷◌, Option, Some, None, refl, sym, ◌∙◌, ap, subst, arith}
+use Rattle.std.proofs.Common.{◌≡◌, ℕ, true, false, List, [], ◌∷◌, Option, Some, None, sym, subst}
 use Rattle.std.specs.Prelude.{option_map, map, slice_get, if◌then◌else◌}
 use Rattle.taco_unit.specs.declared.kind.Kind.TheVariants as kind
 use Rattle.taco_unit.specs.declared.expr.Expr.{Expr}
@@ -7,15 +7,14 @@ use Rattle.taco_unit.specs.declared.stmt.Stmt.{Stmt, ind-Stmt, roll-Stmt, map-St
 use Rattle.taco_unit.specs.declared.stmt.Stmt.TheOpen.{Stmt-F}
 use Rattle.taco_unit.specs.declared.stmt.Stmt.TheVariants as s
 use Rattle.heap_core.specs.Posed.{Posed}
-use Rattle.heap_core.specs.Exec.{Memory, Exit, Goes, Returns, Frame, Body, Run, code, call_of, on_object, gives_in, write, after, after_test, in_turn, set_local, stepped, step_field, turns, give_back, exec}
+use Rattle.heap_core.specs.Exec.{Memory, Goes, Frame, Body, Run, code, call_of, on_object, gives_in, write, after, after_test, in_turn, set_local, stepped, step_field, turns, give_back, exec}
 use Rattle.heap_core.proofs.ExecForms.{exec_block, exec_set, exec_write, exec_step_local, exec_step_field, exec_if, exec_while, exec_return, exec_run}
-use Rattle.dyn_core.specs.declared.state.DynState.{DynState}
 use Rattle.dyn_plan.specs.Plans.{go}
 use Rattle.dyn_plan.specs.Places.{Ground, Spots}
-use Rattle.dyn_plan.specs.Expressions.{Inline, kind_or, class_of_field, kind_of_field, low_expr, low_call}
-use Rattle.dyn_plan.specs.Statements.{Laid, Lay, lay_step, lay}
+use Rattle.dyn_plan.specs.Expressions.{Inline, kind_or, low_expr, low_call}
+use Rattle.dyn_plan.specs.Statements.{Lay, lay_step, lay}
 use Rattle.dyn_plan.proofs.LowForms.{lay_block as block_is, lay_set, lay_write, lay_step_local, lay_step_field, lay_if, lay_while, lay_return, lay_run}
-use Rattle.dyn_plan.proofs.Shown.{IsFrame, IsReady, kept_same}
+use Rattle.dyn_plan.proofs.Shown.{kept_same}
 use Rattle.dyn_plan.proofs.CallShown.{Inlines}
 use Rattle.dyn_plan.proofs.ExprAll.{expr_shows, call_shows}
 use Rattle.dyn_plan.proofs.StmtShown.{exit_wanted, Ended, StmtClaim}

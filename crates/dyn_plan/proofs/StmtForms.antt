@@ -1,47 +1,33 @@
 -- The forms of statements, but loops: each shows what it does.
-use Rattle.std.proofs.Common.{◌≡◌, ℕ, zero, suc, ◌+◌, ◌<◌, ◌≤◌, Bool, true, false, not, List, [], ◌∷◌, ◌++◌, Option, Some, None, refl, sym, ◌∙◌, ap, subst, arith}
-use Rattle.std.specs.Prelude.{◌||◌, pos, nat_lt, if◌then◌else◌, option_and_then, option_map, map, length, slice_get, slice_set, is_some}
-use Rattle.std.proofs.lemmas.Bool.{false≢true}
-use Rattle.std.proofs.lemmas.Bool.Decides.{nat_tests}
+use Rattle.std.proofs.Common.{◌≡◌, ℕ, ◌≤◌, Bool, true, false, List, [], ◌∷◌, ◌++◌, Option, Some, None, refl, sym, ◌∙◌, ap, subst, arith}
+use Rattle.std.specs.Prelude.{◌||◌, pos, option_and_then, option_map, map, slice_get, slice_set, is_some}
 use Rattle.std.proofs.lemmas.Option.{slice_get-map}
 use Rattle.taco_unit.specs.declared.kind.Kind.{Kind}
-use Rattle.taco_unit.specs.declared.kind.Kind.TheVariants as kind
 use Rattle.taco_unit.specs.declared.expr.Op.TheVariants as op
-use Rattle.taco_unit.specs.declared.unit.ClassDef.{ClassDef}
 use Rattle.heap_core.specs.declared.value.Value.{Value}
-use Rattle.heap_core.specs.declared.value.Value.TheVariants.{Null, Obj, Num, Flag}
+use Rattle.heap_core.specs.declared.value.Value.TheVariants.{Num}
 use Rattle.heap_core.specs.declared.value.Seen.{Seen}
 use Rattle.heap_core.specs.declared.value.Seen.TheVariants.{Is, Bad, Out}
 use Rattle.heap_core.specs.Posed.{Posed}
 use Rattle.heap_core.specs.Outcomes.{operated}
-use Rattle.heap_core.specs.Heap.{Heap, put}
-use Rattle.heap_core.specs.Exec.{Memory, Ends, Gives, Throws, Leaves, Exit, Goes, Returns, Raises, Stops, Frame, Code, Body, then_with, ends_as, on_object, gives_in, read, write, with_heap, after, on_branch, after_test, then_do, then_body, in_turn, set_local, stepped, step_field}
-use Rattle.heap_core.proofs.FieldLaws.{none_some, some_same}
-use Rattle.dyn_core.specs.declared.prog.Act.{Act}
-use Rattle.dyn_core.specs.declared.prog.Act.TheVariants.{Copy, Const, Sum, Diff, Read, Write}
+use Rattle.heap_core.specs.Exec.{Memory, Exit, Goes, Returns, Raises, Stops, Frame, Code, Body, ends_as, gives_in, after, then_do, in_turn, set_local, stepped}
+use Rattle.dyn_core.specs.declared.prog.Act.TheVariants.{Sum, Diff}
 use Rattle.dyn_core.specs.declared.state.DynState.{DynState}
-use Rattle.dyn_core.specs.States.{var_at, with_var}
-use Rattle.dyn_core.specs.Actions.{with_given, put_through, acted}
-use Rattle.dyn_core.proofs.Vars.{var_set, var_apart}
+use Rattle.dyn_core.specs.States.{var_at}
+use Rattle.dyn_core.specs.Actions.{with_given, acted}
 use Rattle.dyn_plan.specs.declared.plan.Plan.{Plan}
 use Rattle.dyn_plan.specs.declared.plan.Plan.TheVariants as l
-use Rattle.dyn_plan.specs.Plans.{by_flag, next, go}
-use Rattle.dyn_plan.specs.Places.{Ground, Spots, width, slot, behind, one_number, is_receiver}
-use Rattle.dyn_plan.specs.Guards.{Lowered, guarded, set_done, through}
-use Rattle.dyn_plan.specs.Expressions.{Low, class_of_field, kind_of_field, behind_both}
-use Rattle.dyn_plan.specs.Statements.{Laid, Lay, stops, value_then, with_next, lay_block, set_to, step_by_one, step_local, write_low, step_field_low, if_low}
-use Rattle.dyn_plan.proofs.PlanForms.{next_do, next_if, next_fail}
-use Rattle.dyn_plan.proofs.Shown.{set, IsKept, kept_set, kept_same, kept_then, Stands, stands_on, moving, Remembers, ThisIs, HasFlags, IsFrame, IsOpen, IsReady, Each, Rising, HasGiven, HasThrown, Shows, shows_from, then_shows, this_on, ready_on, go_one, go_append, Skips, skips_none, skips_both, guard_skips, guard_opens}
-use Rattle.dyn_plan.proofs.Operations.{IsDefined, go_do, did, number_defined}
-use Rattle.dyn_plan.proofs.NullTests.{OnObject, through_shows}
-use Rattle.dyn_plan.proofs.ExprShown.{behind_above, or_left, or_right, Claim, given_from}
-use Rattle.dyn_plan.proofs.FormShown.{each_at, field_shows}
-use Rattle.heap_core.specs.Exec.{give_back}
-use Rattle.dyn_plan.specs.Expressions.{kind_or}
-use Rattle.dyn_plan.specs.Statements.{return_bare, return_value}
+use Rattle.dyn_plan.specs.Plans.{go}
+use Rattle.dyn_plan.specs.Places.{Ground, Spots, one_number}
+use Rattle.dyn_plan.specs.Guards.{Lowered, guarded}
+use Rattle.dyn_plan.specs.Expressions.{Low}
+use Rattle.dyn_plan.specs.Statements.{Laid, Lay, stops, value_then, lay_block, set_to, step_by_one, step_local}
+use Rattle.dyn_plan.proofs.PlanForms.{next_do}
+use Rattle.dyn_plan.proofs.Shown.{set, IsKept, kept_same, Stands, Remembers, IsFrame, IsReady, HasGiven, Shows, go_one, go_append, Skips, skips_none, skips_both, guard_skips, guard_opens}
+use Rattle.dyn_plan.proofs.Operations.{IsDefined, did, number_defined}
+use Rattle.dyn_plan.proofs.ExprShown.{or_left, or_right, Claim}
 use Rattle.dyn_plan.proofs.Operations.{numbers_defined}
-use Rattle.dyn_plan.proofs.CallShown.{as_wanted, CallResult, CallClaim}
-use Rattle.dyn_plan.proofs.StmtShown.{exit_wanted, ResultIs, HasReturned, with_locals, Ended, StmtClaim, ended_from, ended_weaker, ends_nowhere, wanted_after, wanted_goes, wanted_stops, after_shows, operand_does, ended_all, local_set, set_local_is, set_shows}
+use Rattle.dyn_plan.proofs.StmtShown.{exit_wanted, with_locals, Ended, StmtClaim, ended_from, ended_weaker, ends_nowhere, wanted_goes, wanted_stops, operand_does, local_set, set_local_is, set_shows}
 
 -- ## blocks
 

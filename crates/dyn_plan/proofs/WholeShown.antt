@@ -2,46 +2,42 @@
 use Rattle.std.proofs.Common.{◌≡◌, ℕ, zero, suc, ◌+◌, ◌<◌, ◌≤◌, Bool, true, false, List, [], ◌∷◌, ◌++◌, length, Option, Some, None, refl, sym, ◌∙◌, ap, subst, arith}
 use Rattle.std.specs.Prelude.{◌-◌, ◌^◌, ◌==◌, ◌||◌, nat_lt, pos, if◌then◌else◌, option_and_then, map, slice_get, Contains}
 use Rattle.std.specs.List.{range_with_len}
-use Rattle.std.specs.Option.{option_to_list}
-use Rattle.std.proofs.lemmas.Bool.{false≢true, lt-ltb, eqb-true, eq-eqb}
+use Rattle.std.proofs.lemmas.Bool.{false≢true, lt-ltb, eq-eqb}
 use Rattle.std.proofs.Math.Pow.{pow_mono}
 use Rattle.taco_unit.specs.declared.kind.Kind.{Kind}
 use Rattle.taco_unit.specs.declared.kind.Kind.TheVariants.{Int, Flag, Ref}
 use Rattle.taco_unit.specs.declared.unit.MethodDef.{MethodDef}
 use Rattle.heap_core.specs.declared.value.Value.{Value}
 use Rattle.heap_core.specs.declared.value.Value.TheVariants as v
-use Rattle.heap_core.specs.declared.value.Seen.{Seen}
 use Rattle.heap_core.specs.declared.value.Seen.TheVariants.{Is, Out}
 use Rattle.heap_core.specs.declared.start.Start.{Start}
 use Rattle.heap_core.specs.Posed.{Posed}
-use Rattle.heap_core.specs.Outcomes.{zero_of, number}
+use Rattle.heap_core.specs.Outcomes.{zero_of}
 use Rattle.heap_core.specs.Start.{method_of}
 use Rattle.heap_core.specs.Exec.{Memory, memory_of, Ends, Gives, Throws, Leaves, run_body, calls}
 use Rattle.heap_core.specs.Judge.{run_of}
 use Rattle.heap_core.proofs.FieldLaws.{none_some, some_same}
 use Rattle.dyn_core.specs.declared.prog.Act.TheVariants.{Copy, Const}
 use Rattle.dyn_core.specs.declared.state.DynState.{DynState}
-use Rattle.dyn_core.specs.States.{var_at, with_var}
+use Rattle.dyn_core.specs.States.{var_at}
 use Rattle.dyn_core.specs.Actions.{with_given, constant}
-use Rattle.dyn_core.specs.Runs.{RunUpTo}
 use Rattle.dyn_core.proofs.Vars.{var_set, var_apart}
 use Rattle.dyn_core.proofs.Members.{contains_option}
 use Rattle.dyn_plan.specs.declared.plan.Plan.{Plan}
 use Rattle.dyn_plan.specs.declared.plan.Plan.TheVariants as l
 use Rattle.dyn_plan.specs.Plans.{go}
-use Rattle.dyn_plan.specs.Programs.{program}
-use Rattle.dyn_plan.specs.Places.{Ground, Spots, width, slot, flag_of}
+use Rattle.dyn_plan.specs.Places.{Ground, Spots, width, flag_of}
 use Rattle.dyn_plan.specs.Guards.{Lowered}
 use Rattle.dyn_plan.specs.Frames.{result_of, inline_body, inlined}
-use Rattle.dyn_plan.specs.Whole.{Whole, ground, receiver_in, frame_row, outer_frame, row_kinds, rows_up_to, greatest, zeros, ones, zeros_but, opening, run_inside, closed, whole}
-use Rattle.dyn_plan.specs.Follows.{with_loops, HasReceiver, Suits, StartsIn, HasResult, EndsAs, IsIn, FollowsAt}
+use Rattle.dyn_plan.specs.Whole.{Whole, ground, receiver_in, outer_frame, row_kinds, rows_up_to, greatest, zeros, ones, zeros_but, opening, run_inside, whole}
+use Rattle.dyn_plan.specs.Follows.{with_loops, HasReceiver, Suits, StartsIn, EndsAs, IsIn}
 use Rattle.dyn_plan.specs.Laws.{PlansDoAsCode}
 use Rattle.dyn_plan.proofs.Bridge.{plans_run_as_programs}
-use Rattle.dyn_plan.proofs.Shown.{set, IsKept, kept_set, kept_same, kept_then, Stands, stands_on, moving, Remembers, ThisIs, HasFlags, IsOpen, Each, HasGiven, HasThrown, Shows, go_one, go_append}
+use Rattle.dyn_plan.proofs.Shown.{set, IsKept, kept_set, kept_same, kept_then, moving, Remembers, ThisIs, HasFlags, IsOpen, Each, Shows, go_append}
 use Rattle.dyn_plan.proofs.Operations.{go_do}
 use Rattle.dyn_plan.proofs.ExprShown.{slot_below}
 use Rattle.dyn_plan.proofs.CallShown.{InlineResult}
-use Rattle.dyn_plan.proofs.FrameRows.{constant_zero, go_zero, go_flag}
+use Rattle.dyn_plan.proofs.FrameRows.{go_zero, go_flag}
 use Rattle.dyn_plan.proofs.FrameShown.{body_shows, inlines}
 
 -- ## what stands still
