@@ -19,12 +19,14 @@ use Rattle.dyn_plan.specs.Places.{Ground, Spots, width, slot, behind}
 use Rattle.dyn_plan.specs.Guards.{Lowered, guarded, through}
 use Rattle.dyn_plan.specs.Expressions.{Low}
 use Rattle.dyn_plan.proofs.PlanForms.{next_do}
-use Rattle.dyn_plan.proofs.Shown.{set, IsKept, kept_set, kept_same, kept_then, Remembers, ThisIs, HasFlags, IsFrame, IsOpen, IsReady, Each, HasGiven, Shows, weaker, shows_from, then_shows, ready_on, go_one, go_append, Skips, skips_both, guard_skips, guard_opens}
+use Rattle.dyn_plan.proofs.Shown.{set, IsKept, kept_set, kept_same, kept_then, Remembers, ThisIs, HasFlags, IsFrame, IsOpen, IsReady, Each}
+use Rattle.dyn_plan.proofs.Shown.{HasGiven, Shows, weaker, shows_from, then_shows, ready_on, go_one, go_append, Skips, skips_both, guard_skips, guard_opens}
 use Rattle.dyn_plan.proofs.NullTests.{through_shows}
 use Rattle.heap_core.proofs.FieldLaws.{none_some, some_same}
 use Rattle.heap_core.specs.Exec.{Run, in_order, target_of, entered}
 use Rattle.dyn_plan.specs.Places.{first_kind, later_kinds}
-use Rattle.dyn_plan.specs.Expressions.{Inline, Arguments, Target, kind_or, class_of_method, kinds_of_params, kind_of_result, arguments_low, target_low, entered_low, can_be_null, with_value_at, with_target}
+use Rattle.dyn_plan.specs.Expressions.{Inline, Arguments, Target, kind_or, class_of_method, kinds_of_params}
+use Rattle.dyn_plan.specs.Expressions.{kind_of_result, arguments_low, target_low, entered_low, can_be_null, with_value_at, with_target}
 use Rattle.dyn_plan.proofs.Shown.{open_on, skips_none}
 use Rattle.dyn_plan.proofs.ExprShown.{behind_above, or_left, or_right, Claim, operand_then, given_from}
 

@@ -26,7 +26,8 @@ use Rattle.taco_unit.specs.declared.expr.Reach.{Reach}
 use Rattle.taco_unit.specs.declared.expr.Call.{Call, out-Call, roll-Call, map-Call}
 use Rattle.taco_unit.specs.declared.expr.Expr.TheVariants as e
 use Rattle.heap_core.specs.Exec.{Run, code, call_of}
-use Rattle.heap_core.proofs.ExecForms.{code_num, code_flag, code_null, code_this, code_local, code_read, code_neg, code_not, code_bin, code_new, code_call, code_result, code_bound, code_quant, code_old, code_has, code_size, call_form}
+use Rattle.heap_core.proofs.ExecForms.{code_num, code_flag, code_null, code_this, code_local, code_read, code_neg, code_not, code_bin}
+use Rattle.heap_core.proofs.ExecForms.{code_new, code_call, code_result, code_bound, code_quant, code_old, code_has, code_size, call_form}
 use Rattle.dyn_plan.specs.Places.{zero_number}
 use Rattle.dyn_plan.specs.Expressions.{Inline, kind_or, class_of_method, kind_of_result, target_low, with_target, expr_step, low_expr, low_call}
 use Rattle.dyn_plan.proofs.LowForms.{is_num, is_flag, is_null, is_this, is_result, is_local, is_bound, is_read, is_neg, is_not, is_bin, is_quant, is_old, is_has, is_size, is_new, is_call, is_called}

@@ -19,7 +19,8 @@ use Rattle.dyn_plan.specs.Places.{Ground, Spots, width, slot, behind}
 use Rattle.dyn_plan.specs.Guards.{Lowered, guarded}
 use Rattle.dyn_plan.specs.Expressions.{Low, kind_of_op, operation, behind_both, after_both}
 use Rattle.dyn_plan.proofs.PlanForms.{next_fail}
-use Rattle.dyn_plan.proofs.Shown.{IsKept, kept_same, kept_then, moving, Remembers, IsFrame, IsReady, HasGiven, Shows, shows_from, then_shows, ready_on, go_one, Skips, skips_both, guard_skips, guard_opens}
+use Rattle.dyn_plan.proofs.Shown.{IsKept, kept_same, kept_then, moving, Remembers, IsFrame, IsReady, HasGiven}
+use Rattle.dyn_plan.proofs.Shown.{Shows, shows_from, then_shows, ready_on, go_one, Skips, skips_both, guard_skips, guard_opens}
 use Rattle.dyn_plan.proofs.Operations.{operation_shows}
 
 -- ## rows

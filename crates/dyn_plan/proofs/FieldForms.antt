@@ -22,7 +22,8 @@ use Rattle.dyn_plan.specs.Guards.{Lowered, guarded, set_done, through}
 use Rattle.dyn_plan.specs.Expressions.{Low, class_of_field, kind_of_field, behind_both}
 use Rattle.dyn_plan.specs.Statements.{Lay, step_by_one, write_low, step_field_low, if_low}
 use Rattle.dyn_plan.proofs.PlanForms.{next_do, next_if}
-use Rattle.dyn_plan.proofs.Shown.{set, IsKept, kept_set, kept_same, kept_then, Stands, stands_on, Remembers, IsFrame, IsReady, HasGiven, Shows, shows_from, then_shows, ready_on, go_one, skips_both, guard_skips, guard_opens}
+use Rattle.dyn_plan.proofs.Shown.{set, IsKept, kept_set, kept_same, kept_then, Stands, stands_on, Remembers, IsFrame}
+use Rattle.dyn_plan.proofs.Shown.{IsReady, HasGiven, Shows, shows_from, then_shows, ready_on, go_one, skips_both, guard_skips, guard_opens}
 use Rattle.dyn_plan.proofs.Operations.{go_do}
 use Rattle.dyn_plan.proofs.NullTests.{through_shows}
 use Rattle.dyn_plan.proofs.ExprShown.{behind_above, or_left, or_right, Claim}

@@ -28,7 +28,8 @@ use Rattle.dyn_plan.specs.Places.{Ground, Spots, width, slot, behind, flag_of, i
 use Rattle.dyn_plan.specs.Guards.{Lowered, guarded, null_at, through}
 use Rattle.dyn_plan.specs.Expressions.{Low, class_of_field, kind_of_field, operand_kind, as_truth, short, combined_low, after_one, read_low, found, this_low}
 use Rattle.dyn_plan.proofs.PlanForms.{next_do, next_if}
-use Rattle.dyn_plan.proofs.Shown.{IsKept, kept_set, kept_same, kept_then, Stands, moving, Remembers, ThisIs, IsFrame, IsReady, Each, HasGiven, Shows, weaker, shows_from, go_one, guard_skips, guard_opens}
+use Rattle.dyn_plan.proofs.Shown.{IsKept, kept_set, kept_same, kept_then, Stands, moving, Remembers, ThisIs, IsFrame}
+use Rattle.dyn_plan.proofs.Shown.{IsReady, Each, HasGiven, Shows, weaker, shows_from, go_one, guard_skips, guard_opens}
 use Rattle.dyn_plan.proofs.Operations.{IsDefined, did, null_there, same_defined}
 use Rattle.dyn_plan.proofs.NullTests.{through_shows}
 use Rattle.std.proofs.lemmas.Option.{slice_get-map}

@@ -149,7 +149,26 @@ pub low_called : (g : Ground) (inline : Inline) (c : Call) (wanted : Bool) (f : 
 low_called g inline c wanted f b = ap (λ l. l.low wanted f b) (is_called g inline c)
 
 -- all forms of expressions
-pub ruleset low_forms = (low_num, low_flag, low_null, low_this, low_result, low_local, low_bound, low_read, low_neg, low_not, low_bin, low_quant, low_old, low_has, low_size, low_new, low_of_call, low_called)
+pub ruleset low_forms = (
+  low_num,
+  low_flag,
+  low_null,
+  low_this,
+  low_result,
+  low_local,
+  low_bound,
+  low_read,
+  low_neg,
+  low_not,
+  low_bin,
+  low_quant,
+  low_old,
+  low_has,
+  low_size,
+  low_new,
+  low_of_call,
+  low_called,
+)
 
 -- ## their kinds
 
@@ -211,7 +230,26 @@ pub kind_called : (g : Ground) (inline : Inline) (c : Call)
 kind_called g inline c = ap (λ l. l.kind) (is_called g inline c)
 
 -- all forms of their kinds
-pub ruleset kind_forms = (kind_num, kind_flag, kind_null, kind_this, kind_result, kind_local, kind_bound, kind_read, kind_neg, kind_not, kind_bin, kind_quant, kind_old, kind_has, kind_size, kind_new, kind_of_call, kind_called)
+pub ruleset kind_forms = (
+  kind_num,
+  kind_flag,
+  kind_null,
+  kind_this,
+  kind_result,
+  kind_local,
+  kind_bound,
+  kind_read,
+  kind_neg,
+  kind_not,
+  kind_bin,
+  kind_quant,
+  kind_old,
+  kind_has,
+  kind_size,
+  kind_new,
+  kind_of_call,
+  kind_called,
+)
 
 -- ## statements
 

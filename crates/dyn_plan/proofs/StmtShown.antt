@@ -20,7 +20,8 @@ use Rattle.dyn_plan.specs.Guards.{guarded}
 use Rattle.dyn_plan.specs.Expressions.{Low}
 use Rattle.dyn_plan.specs.Statements.{Lay, set_to}
 use Rattle.dyn_plan.proofs.PlanForms.{next_do, next_fail}
-use Rattle.dyn_plan.proofs.Shown.{set, IsKept, kept_set, stands_on, Remembers, IsFrame, IsReady, Each, Rising, HasGiven, HasThrown, Shows, shows_from, this_on, ready_on, go_one, go_append, Skips, guard_opens}
+use Rattle.dyn_plan.proofs.Shown.{set, IsKept, kept_set, stands_on, Remembers, IsFrame, IsReady, Each, Rising}
+use Rattle.dyn_plan.proofs.Shown.{HasGiven, HasThrown, Shows, shows_from, this_on, ready_on, go_one, go_append, Skips, guard_opens}
 use Rattle.dyn_plan.proofs.ExprShown.{Claim}
 use Rattle.dyn_plan.proofs.FormShown.{each_at}
 
