@@ -9,19 +9,17 @@ use Rattle.heap_core.specs.declared.value.Value.{Value}
 use Rattle.heap_core.specs.declared.value.Value.TheVariants.{Null, Obj, Num, Flag}
 use Rattle.heap_core.specs.Outcomes.{is_value}
 use Rattle.heap_core.specs.Posed.{Posed}
-use Rattle.dyn_core.specs.declared.prog.Act.{Act}
 use Rattle.dyn_core.specs.declared.prog.Prog.{Prog}
 use Rattle.dyn_core.specs.declared.prog.Prog.TheVariants as q
 use Rattle.dyn_core.specs.declared.state.DynState.{DynState}
 use Rattle.dyn_core.specs.States.{var_at}
 use Rattle.dyn_core.specs.Runs.{LastStates, passes, one_by_one, up_to, ends}
 use Rattle.dyn_core.proofs.Forms.{ends_act, ends_test, ends_seq, ends_choice, ends_star}
-use Rattle.dyn_core.proofs.Alike.{flat_alike}
 use Rattle.dyn_plan.specs.declared.plan.Plan.{Plan, ind-Plan, roll-Plan, map-Plan}
 use Rattle.dyn_plan.specs.declared.plan.Plan.TheOpen.{Plan-F}
 use Rattle.dyn_plan.specs.declared.plan.Plan.TheVariants as l
-use Rattle.dyn_plan.specs.Plans.{Next, in_line, by_flag, while_true, next, go}
-use Rattle.dyn_plan.specs.Programs.{either, repetition, program_of_step, program}
+use Rattle.dyn_plan.specs.Plans.{Next, by_flag, while_true, next, go}
+use Rattle.dyn_plan.specs.Programs.{program_of_step}
 use Rattle.dyn_plan.specs.Laws.{PlansRunAsPrograms}
 use Rattle.dyn_plan.proofs.PlanForms.{next_do, next_fail, next_if, next_while, program_do, program_fail, program_if, program_while}
 
@@ -39,14 +37,16 @@ flat_flat : (f g : LastStates) (xs : List DynState) → flat_map f (flat_map g x
 flat_flat f g [] = refl
 flat_flat f g (x ∷ xs) = flat_map-append f (g x) (flat_map g xs) ∙ ap (λ z. flat_map f (g x) ++ z) (flat_flat f g xs)
 
-two_branches : (v : Value) (taken other : Option DynState) → (if is_value (Flag true) v then option_to_list taken else []) ++ ((if is_value (Flag false) v then option_to_list other else []) ++ []) ≡ option_to_list (by_flag v taken other)
+two_branches : (v : Value) (taken other : Option DynState) → (if is_value (Flag true) v then option_to_list taken else []) ++
+    ((if is_value (Flag false) v then option_to_list other else []) ++ []) ≡ option_to_list (by_flag v taken other)
 two_branches (Flag true) taken other = append-nil (option_to_list taken)
 two_branches (Flag false) taken other = append-nil (option_to_list other)
 two_branches Null taken other = refl
 two_branches (Obj o) taken other = refl
 two_branches (Num z) taken other = refl
 
-end_or_turn : (v : Value) (taken other : Option DynState) → (if is_value (Flag false) v then option_to_list other else []) ++ (if is_value (Flag true) v then option_to_list taken else []) ≡ option_to_list (by_flag v taken other)
+end_or_turn : (v : Value) (taken other : Option DynState) → (if is_value (Flag false) v then option_to_list other else []) ++
+    (if is_value (Flag true) v then option_to_list taken else []) ≡ option_to_list (by_flag v taken other)
 end_or_turn (Flag true) taken other = refl
 end_or_turn (Flag false) taken other = append-nil (option_to_list other)
 end_or_turn Null taken other = refl
@@ -57,7 +57,8 @@ if_nothing : (b : Bool) → let none : List DynState = [] in (if b then none els
 if_nothing true = refl
 if_nothing false = refl
 
-if_option : (b : Bool) (f : LastStates) (g : Next) → ((t : DynState) → f t ≡ option_to_list (g t)) → (o : Option DynState) → flat_map f (if b then option_to_list o else []) ≡ (if b then option_to_list (option_and_then g o) else [])
+if_option : (b : Bool) (f : LastStates) (g : Next) → ((t : DynState) → f t ≡ option_to_list (g t)) → (o : Option DynState)
+    → flat_map f (if b then option_to_list o else []) ≡ (if b then option_to_list (option_and_then g o) else [])
 if_option true f g same o = flat_option f g same o
 if_option false f g same o = refl
 
@@ -72,7 +73,8 @@ line p n [] all s = refl
 line p n (x ∷ xs) all s = rw (all.0 s) (flat_option (one_by_one (map (ends p n) (map program_of_step xs))) (go p n xs) (line p n xs all.1) (next p n x s))
 
 -- steps behind a test
-tested : (p : Posed) (n x : ℕ) (b : Bool) (xs : List Plan) → AllByRecursion (Bridged p n) xs → (s : DynState) → ends p n (q.Seq (q.Test x b ∷ map program_of_step xs)) s ≡ (if passes x b s then option_to_list (go p n xs s) else [])
+tested : (p : Posed) (n x : ℕ) (b : Bool) (xs : List Plan) → AllByRecursion (Bridged p n) xs → (s : DynState)
+    → ends p n (q.Seq (q.Test x b ∷ map program_of_step xs)) s ≡ (if passes x b s then option_to_list (go p n xs s) else [])
 tested p n x b xs all s =
     let rest : LastStates = one_by_one (map (ends p n) (map program_of_step xs)) in
     ends_seq p n (q.Test x b ∷ map program_of_step xs) s
@@ -81,7 +83,8 @@ tested p n x b xs all s =
     ∙ ap (λ z. if passes x b s then z else []) (line p n xs all s)
 
 -- a loop of at most m turns, whose last test ends it
-looped : (m x : ℕ) (e last : LastStates) (g : Next) → ((s : DynState) → e s ≡ (if passes x true s then option_to_list (g s) else [])) → ((s : DynState) → last s ≡ (if passes x false s then s ∷ [] else [])) → (s : DynState) → flat_map last (up_to m e s) ≡ option_to_list (while_true m x g s)
+looped : (m x : ℕ) (e last : LastStates) (g : Next) → ((s : DynState) → e s ≡ (if passes x true s then option_to_list (g s) else []))
+    → ((s : DynState) → last s ≡ (if passes x false s then s ∷ [] else [])) → (s : DynState) → flat_map last (up_to m e s) ≡ option_to_list (while_true m x g s)
 looped zero x e last g turn ending s =
     append-nil (last s)
     ∙ ending s

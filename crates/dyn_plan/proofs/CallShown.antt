@@ -1,44 +1,34 @@
 -- Calls: what their steps show, where inlined methods show what methods do.
-use Rattle.std.proofs.Common.{◌≡◌, ℕ, zero, suc, ◌+◌, ◌<◌, ◌≤◌, Bool, true, false, not, List, [], ◌∷◌, ◌++◌, Option, Some, None, refl, sym, ◌∙◌, ap, subst, arith}
-use Rattle.std.specs.Prelude.{◌||◌, ℤ, pos, nat_lt, if◌then◌else◌, option_and_then, option_map, map, length, slice_get}
+use Rattle.std.proofs.Common.{◌≡◌, ℕ, ◌+◌, ◌<◌, ◌≤◌, Bool, true, false, List, [], ◌∷◌, ◌++◌, Option, Some, None, refl, sym, ◌∙◌, ap, subst, arith}
+use Rattle.std.specs.Prelude.{◌||◌, option_and_then, map}
 use Rattle.std.proofs.lemmas.Bool.{false≢true}
-use Rattle.std.proofs.lemmas.Bool.Decides.{nat_tests}
 use Rattle.taco_unit.specs.declared.kind.Kind.{Kind}
 use Rattle.taco_unit.specs.declared.kind.Kind.TheVariants as kind
-use Rattle.taco_unit.specs.declared.expr.Op.{Op}
-use Rattle.taco_unit.specs.declared.expr.Op.TheVariants as op
-use Rattle.taco_unit.specs.declared.unit.ClassDef.{ClassDef}
 use Rattle.heap_core.specs.declared.value.Value.{Value}
 use Rattle.heap_core.specs.declared.value.Value.TheVariants.{Null, Obj, Num, Flag}
-use Rattle.heap_core.specs.declared.value.Object.{Object}
-use Rattle.heap_core.specs.declared.value.Seen.{Seen}
-use Rattle.heap_core.specs.declared.value.Seen.TheVariants.{Is, Bad, Out}
 use Rattle.heap_core.specs.Posed.{Posed}
-use Rattle.heap_core.specs.Outcomes.{number, value_in, on_number, negative, opposite, operated, same}
-use Rattle.heap_core.specs.Heap.{Heap, cell, cell_of, field, grown}
-use Rattle.heap_core.specs.Exec.{Memory, Ends, Gives, Throws, Leaves, Frame, Code, then_with, ends_as, on_test, then_test, as_test, on_object, gives_in, read, make, with_heap, combined}
-use Rattle.dyn_core.specs.declared.prog.Act.{Act}
-use Rattle.dyn_core.specs.declared.prog.Act.TheVariants.{Copy, Const, Diff, Same, Read, Make}
+use Rattle.heap_core.specs.Exec.{Memory, Ends, Gives, Throws, Leaves, Frame, Code, then_with, on_object, gives_in}
+use Rattle.dyn_core.specs.declared.prog.Act.TheVariants.{Copy}
 use Rattle.dyn_core.specs.declared.state.DynState.{DynState}
-use Rattle.dyn_core.specs.States.{var_at, with_var}
-use Rattle.dyn_core.specs.Actions.{with_given, acted}
+use Rattle.dyn_core.specs.States.{var_at}
 use Rattle.dyn_core.proofs.Vars.{var_set}
 use Rattle.dyn_plan.specs.declared.plan.Plan.{Plan}
 use Rattle.dyn_plan.specs.declared.plan.Plan.TheVariants as l
-use Rattle.dyn_plan.specs.Plans.{by_flag, next, go}
-use Rattle.dyn_plan.specs.Places.{Ground, Spots, width, slot, behind, flag_of, is_receiver}
-use Rattle.dyn_plan.specs.Guards.{Lowered, guarded, nowhere, at_once, in_place, null_at, through}
-use Rattle.dyn_plan.specs.Expressions.{Low, class_of_field, kind_of_field, kind_of_op, operand_kind, operation, behind_both, after_both, as_truth, short, combined_low, after_one, read_low, found, this_low}
-use Rattle.dyn_plan.proofs.PlanForms.{next_do, next_if, next_fail}
-use Rattle.dyn_plan.proofs.Shown.{set, IsKept, kept_set, kept_same, kept_then, Stands, moving, Remembers, ThisIs, HasFlags, IsFrame, IsOpen, IsReady, Each, HasGiven, HasThrown, Shows, weaker, shows_from, then_shows, ready_on, go_one, go_append, Skips, skips_both, guard_skips, guard_opens}
-use Rattle.dyn_plan.proofs.Operations.{IsDefined, number_defined, opposite_defined, negative_defined, go_do, did, did_both, operation_shows, NullThere, null_there, same_false, same_defined}
-use Rattle.dyn_plan.proofs.NullTests.{OnObject, through_shows}
+use Rattle.dyn_plan.specs.Plans.{go}
+use Rattle.dyn_plan.specs.Places.{Ground, Spots, width, slot, behind}
+use Rattle.dyn_plan.specs.Guards.{Lowered, guarded, through}
+use Rattle.dyn_plan.specs.Expressions.{Low}
+use Rattle.dyn_plan.proofs.PlanForms.{next_do}
+use Rattle.dyn_plan.proofs.Shown.{set, IsKept, kept_set, kept_same, kept_then, Remembers, ThisIs, HasFlags, IsFrame, IsOpen, IsReady, Each}
+use Rattle.dyn_plan.proofs.Shown.{HasGiven, Shows, weaker, shows_from, then_shows, ready_on, go_one, go_append, Skips, skips_both, guard_skips, guard_opens}
+use Rattle.dyn_plan.proofs.NullTests.{through_shows}
 use Rattle.heap_core.proofs.FieldLaws.{none_some, some_same}
 use Rattle.heap_core.specs.Exec.{Run, in_order, target_of, entered}
 use Rattle.dyn_plan.specs.Places.{first_kind, later_kinds}
-use Rattle.dyn_plan.specs.Expressions.{Inline, Arguments, Target, kind_or, class_of_method, kinds_of_params, kind_of_result, arguments_low, target_low, entered_low, can_be_null, with_value_at, run_low, with_arguments, with_target}
+use Rattle.dyn_plan.specs.Expressions.{Inline, Arguments, Target, kind_or, class_of_method, kinds_of_params}
+use Rattle.dyn_plan.specs.Expressions.{kind_of_result, arguments_low, target_low, entered_low, can_be_null, with_value_at, with_target}
 use Rattle.dyn_plan.proofs.Shown.{open_on, skips_none}
-use Rattle.dyn_plan.proofs.ExprShown.{slot_below, behind_above, or_left, or_right, Claim, operand_then, stays, goes_nowhere, given_from}
+use Rattle.dyn_plan.proofs.ExprShown.{behind_above, or_left, or_right, Claim, operand_then, given_from}
 
 -- ## what a call gives
 
@@ -65,7 +55,8 @@ CallResult false b x s o m t = Remembers m t × IsKept b s t
 pub record Inlines (p : Posed) (n : ℕ) (g : Ground) (run : Run) (inline : Inline) : Type 0 where
   pub shows : (method : ℕ) (this : Option ℕ) (args : List ℕ) (w : Bool) (f : Spots) (b start : ℕ) (s : DynState) (m : Memory) (v : Value) (vs : List Value)
       → HasFlags g start f → f.base ≤ b → IsOpen g f m s → ThisIs this v s → ((x : ℕ) → this ≡ Some x → x < b) → Each (λ x. x < b) args → map (var_at s.vars) args ≡ vs
-      → Shows (inline method this args w f b).throws start f s (InlineResult w b (inline method this args w f b).place s) (as_wanted w (run method v vs m)) (go p n (inline method this args w f b).steps s)
+      → Shows (inline method this args w f b).throws start f s (InlineResult w b (inline method this args w f b).place s) (as_wanted w (run method v vs m))
+      (go p n (inline method this args w f b).steps s)
 
 -- a lowered call
 pub record CallClaim (p : Posed) (n : ℕ) (g : Ground) (low : Bool → Spots → ℕ → Lowered) (c : Frame → Memory → Ends (Option Value)) : Type 0 where
@@ -74,7 +65,8 @@ pub record CallClaim (p : Posed) (n : ℕ) (g : Ground) (low : Bool → Spots �
       → IsFrame g start f → f.base ≤ b → IsReady g f fr m s
       → Shows (low w f b).throws start f s (CallResult w b (low w f b).place s) (as_wanted w (c fr m)) (go p n (low w f b).steps s)
 
-pub call_gives : (t : Bool) (start b x : ℕ) (f : Spots) (s : DynState) (e : Ends (Option Value)) (o : Option DynState) → Shows t start f s (CallResult true b x s) (as_wanted true e) o → Shows t start f s (HasGiven b x s) (then_with e gives_in) o
+pub call_gives : (t : Bool) (start b x : ℕ) (f : Spots) (s : DynState) (e : Ends (Option Value)) (o : Option DynState)
+    → Shows t start f s (CallResult true b x s) (as_wanted true e) o → Shows t start f s (HasGiven b x s) (then_with e gives_in) o
 call_gives t start b x f s (Gives (Some v) m) (Some u) shows = shows
 call_gives t start b x f s (Gives (Some v) m) None shows = absurd shows
 call_gives t start b x f s (Gives None m) o shows = left o shows
@@ -117,7 +109,8 @@ each_more : (b c : ℕ) (xs : List ℕ) → b ≤ c → Each (λ x. x < b) xs �
 each_more b c [] low each = tt
 each_more b c (x ∷ xs) low each = (let below = each.0 in omega arith, each_more b c xs low each.1)
 
-args_near : (p : Posed) (n : ℕ) (g : Ground) (as_ : List Low) (cs : List Code) (ks : List Kind) (t : Bool) (start : ℕ) (f : Spots) (b : ℕ) → Claims p n g as_ cs → IsFrame g start f → f.base ≤ b
+args_near : (p : Posed) (n : ℕ) (g : Ground) (as_ : List Low) (cs : List Code) (ks : List Kind) (t : Bool) (start : ℕ) (f : Spots) (b : ℕ) → Claims p n g as_ cs
+    → IsFrame g start f → f.base ≤ b
     → (b ≤ (arguments_low g as_ ks t f b).free) × Each (λ x. x < (arguments_low g as_ ks t f b).free) (arguments_low g as_ ks t f b).places
 args_near p n g [] [] ks t start f b claims frame above = (omega arith, tt)
 args_near p n g [] (c ∷ cs) ks t start f b claims frame above = absurd claims
@@ -132,7 +125,8 @@ args_near p n g (a ∷ as_) (c ∷ cs) ks t start f b claims frame above =
     (omega arith, (omega arith, rest.1))
 
 -- one more value in front
-shows_all : (t : Bool) (start : ℕ) (f : Spots) (s : DynState) {A B : Type 0} (Q : A → Memory → DynState → Type 0) (R : B → Memory → DynState → Type 0) (j : A → B) (e : Ends A) (o : Option DynState)
+shows_all : (t : Bool) (start : ℕ) (f : Spots) (s : DynState) {A B : Type 0} (Q : A → Memory → DynState → Type 0) (R : B → Memory → DynState → Type 0) (j : A → B) (e : Ends A)
+    (o : Option DynState)
     → ((a : A) (m : Memory) (u : DynState) → Q a m u → R (j a) m u) → Shows t start f s Q e o → Shows t start f s R (then_with e (λ a m. Gives (j a) m)) o
 shows_all t start f s Q R j (Gives a m) (Some u) holds shows = holds a m u shows
 shows_all t start f s Q R j (Gives a m) None holds shows = absurd shows
@@ -180,11 +174,13 @@ value_shows p n g true t start b c y f s q inl e flags above far from kept shows
     copied : (u : DynState) → go p n (l.Do (Copy y inl.place) ∷ []) u ≡ Some (set y (var_at u.vars inl.place) u)
     copied u = go_one p n (l.Do (Copy y inl.place)) u ∙ next_do p n (Copy y inl.place) u
 
-    by : (e : Ends (Option Value)) (o : Option DynState) → Shows t start f q (InlineResult true c inl.place q) (as_wanted true e) o → Shows t start f s (CallResult true b y s) (as_wanted true e) (option_and_then (go p n (l.Do (Copy y inl.place) ∷ [])) o)
+    by : (e : Ends (Option Value)) (o : Option DynState) → Shows t start f q (InlineResult true c inl.place q) (as_wanted true e) o
+        → Shows t start f s (CallResult true b y s) (as_wanted true e) (option_and_then (go p n (l.Do (Copy y inl.place) ∷ [])) o)
     by (Gives (Some v) m) (Some u) has = subst (Shows t start f s (CallResult true b y s) (Gives (Some v) m)) (sym (copied u)) (record {
       memory = has.memory;
       value = var_set u.vars y (var_at u.vars inl.place) ∙ has.value;
-      kept = kept_then b b b s u (set y (var_at u.vars inl.place) u) (omega arith) (omega arith) (kept_then b b c s q u (omega arith) far kept has.kept) (kept_set b y (var_at u.vars inl.place) u from);
+      kept = kept_then b b b s u (set y (var_at u.vars inl.place) u) (omega arith) (omega arith) (kept_then b b c s q u (omega arith) far kept has.kept)
+          (kept_set b y (var_at u.vars inl.place) u from);
     })
     by (Gives (Some v) m) None has = absurd has
     by (Gives None m) (Some u) has = absurd has
@@ -248,7 +244,8 @@ result_from true b y s r (Some v) h u kept has = given_from b b y s r u v h (ome
 result_from true b y s r None h u kept has = has
 result_from false b y s r a h u kept has = (has.0, kept_then b b b s r u (omega arith) (omega arith) kept has.1)
 
-entered_shows : (p : Posed) (n : ℕ) (g : Ground) (run : Run) (inline : Inline) (method class : ℕ) (tp : Option ℕ) (tv : Option Value) (w t : Bool) (start : ℕ) (f : Spots) (b c y : ℕ) (s r : DynState) (fr : Frame) (l : Memory) (xs : List ℕ) (vs : List Value)
+entered_shows : (p : Posed) (n : ℕ) (g : Ground) (run : Run) (inline : Inline) (method class : ℕ) (tp : Option ℕ) (tv : Option Value) (w t : Bool) (start : ℕ) (f : Spots)
+    (b c y : ℕ) (s r : DynState) (fr : Frame) (l : Memory) (xs : List ℕ) (vs : List Value)
     → Inlines p n g run inline → IsFrame g start f → f.base ≤ b → b ≤ c → b ≤ y → IsKept b s r → IsReady g f fr l r
     → TargetIs tp tv c r → Each (λ x. x < c) xs → map (var_at r.vars) xs ≡ vs
     → (can_be_null f tp ≡ true → t ≡ true) → ((inline method tp xs w f c).throws ≡ true → t ≡ true)
@@ -261,9 +258,11 @@ entered_shows p n g run inline method class None None w t start f b c y s r fr l
 entered_shows p n g run inline method class (Some x) (Some v) w t start f b c y s r fr l xs vs inlines frame above far from kept ready target each values may throws =
     let inl : Lowered = inline method (Some x) xs w f c in
     subst (λ e. Shows t start f s (CallResult w b y s) e (go p n (through g f c class x (with_value_at w y inl)) r)) (object_wanted w (λ o q. run method (Obj o) vs q) v l)
-    (shows_from t start b f s r (CallResult w b y r) (CallResult w b y s) (on_object (λ o q. as_wanted w (run method (Obj o) vs q)) v l) (go p n (through g f c class x (with_value_at w y inl)) r) (let ordered = frame.flags.ordered in omega arith) kept
+    (shows_from t start b f s r (CallResult w b y r) (CallResult w b y s) (on_object (λ o q. as_wanted w (run method (Obj o) vs q)) v l)
+    (go p n (through g f c class x (with_value_at w y inl)) r) (let ordered = frame.flags.ordered in omega arith) kept
     (λ a h u has. result_from w b y s r a h u kept has)
-    (through_shows p n g t start c f class x l r fr.this v (CallResult w b y r) (λ o q. as_wanted w (run method (Obj o) vs q)) (with_value_at w y inl) may frame.flags (omega arith) ready.opened ready.this target.0 target.1
+    (through_shows p n g t start c f class x l r fr.this v (CallResult w b y r) (λ o q. as_wanted w (run method (Obj o) vs q)) (with_value_at w y inl) may frame.flags
+    (omega arith) ready.opened ready.this target.0 target.1
     (λ o q is memory later.
     weaker inl.throws t start f r (CallResult w b y r) (as_wanted w (run method (Obj o) vs l)) (go p n (with_value_at w y inl) q) throws
     (value_shows p n g w inl.throws start b c y f r q inl (run method (Obj o) vs l) frame.flags above far from (λ z low. later z (omega arith))
@@ -307,13 +306,17 @@ target_on None (Some v) b c s t low kept is = is
 target_on (Some x) None b c s t low kept is = is
 
 -- the arguments, and then the method, where the target has its value
-args_then : (p : Posed) (n : ℕ) (g : Ground) (run : Run) (inline : Inline) (method : ℕ) (as_ : List Low) (cs : List Code) (target : Target) (tv : Option Value) (w : Bool) (start : ℕ) (f : Spots) (b : ℕ) (s u : DynState) (fr : Frame) (m : Memory)
+args_then : (p : Posed) (n : ℕ) (g : Ground) (run : Run) (inline : Inline) (method : ℕ) (as_ : List Low) (cs : List Code) (target : Target) (tv : Option Value) (w : Bool)
+    (start : ℕ) (f : Spots) (b : ℕ) (s u : DynState) (fr : Frame) (m : Memory)
     → Inlines p n g run inline → Claims p n g as_ cs → IsFrame g start f → f.base ≤ b → b ≤ target.free → IsKept b s u → IsReady g f fr m u → TargetIs target.place tv target.free u
     → Shows (with_target g inline method as_ w f b target).throws start f s (CallResult w b (b + slot g (kind_or (kind_of_result g method) kind.Int)) s)
     (as_wanted w (then_with (in_order cs fr m) (λ vs l. entered run method tv vs l)))
-    (go p n ((arguments_low g as_ (kinds_of_params g method) target.throws f target.free).steps ++ guarded f (arguments_low g as_ (kinds_of_params g method) target.throws f target.free).throws
+    (go p n ((arguments_low g as_ (kinds_of_params g method) target.throws f target.free).steps ++ guarded f
+    (arguments_low g as_ (kinds_of_params g method) target.throws f target.free).throws
     (entered_low g f (arguments_low g as_ (kinds_of_params g method) target.throws f target.free).free (class_of_method g method) target.place
-    (with_value_at w (b + slot g (kind_or (kind_of_result g method) kind.Int)) (inline method target.place (arguments_low g as_ (kinds_of_params g method) target.throws f target.free).places w f (arguments_low g as_ (kinds_of_params g method) target.throws f target.free).free)))) u)
+    (with_value_at w (b + slot g (kind_or (kind_of_result g method) kind.Int))
+    (inline method target.place (arguments_low g as_ (kinds_of_params g method) target.throws f target.free).places w f
+    (arguments_low g as_ (kinds_of_params g method) target.throws f target.free).free)))) u)
 args_then p n g run inline method as_ cs target tv w start f b s u fr m inlines claims frame above far kept ready is =
     let args : Arguments = arguments_low g as_ (kinds_of_params g method) target.throws f target.free in
     let y : ℕ = b + slot g (kind_or (kind_of_result g method) kind.Int) in
@@ -324,7 +327,8 @@ args_then p n g run inline method as_ cs target tv w start f b s u fr m inlines 
     let farther = near.0 in
     let low : start ≤ b = let ordered = frame.flags.ordered in omega arith in
     subst (λ e. Shows t start f s (CallResult w b y s) e (go p n (args.steps ++ guarded f args.throws body) u)) (wanted_then w (in_order cs fr m) (λ vs l. entered run method tv vs l))
-    (then_shows p n args.throws t start f s u (HasAll target.free args.places u) (CallResult w b y s) (in_order cs fr m) (λ vs l. as_wanted w (entered run method tv vs l)) args.steps (guarded f args.throws body)
+    (then_shows p n args.throws t start f s u (HasAll target.free args.places u) (CallResult w b y s) (in_order cs fr m) (λ vs l. as_wanted w (entered run method tv vs l))
+    args.steps (guarded f args.throws body)
     (guard_skips p n f args.throws body) (first_of_three args.throws (can_be_null f target.place) inl.throws)
     (args_show p n g as_ cs (kinds_of_params g method) target.throws start f target.free s u fr m claims frame (omega arith) (λ z below. kept z (omega arith)) ready)
     (λ vs l r has.
@@ -341,9 +345,11 @@ TargetClaim p n g (Some a) (Some c) = Claim p n g a c
 TargetClaim p n g None (Some c) = ⊥
 TargetClaim p n g (Some a) None = ⊥
 
-pub called_shows : (p : Posed) (n : ℕ) (g : Ground) (run : Run) (inline : Inline) (method : ℕ) (target : Option Low) (of : Option Code) (as_ : List Low) (cs : List Code) (w : Bool) (start : ℕ) (f : Spots) (b : ℕ) (s : DynState) (fr : Frame) (m : Memory)
+pub called_shows : (p : Posed) (n : ℕ) (g : Ground) (run : Run) (inline : Inline) (method : ℕ) (target : Option Low) (of : Option Code) (as_ : List Low) (cs : List Code)
+    (w : Bool) (start : ℕ) (f : Spots) (b : ℕ) (s : DynState) (fr : Frame) (m : Memory)
     → Inlines p n g run inline → TargetClaim p n g target of → Claims p n g as_ cs → IsFrame g start f → f.base ≤ b → IsReady g f fr m s
-    → Shows (with_target g inline method as_ w f b (target_low g target (class_of_method g method) f b)).throws start f s (CallResult w b (b + slot g (kind_or (kind_of_result g method) kind.Int)) s)
+    → Shows (with_target g inline method as_ w f b (target_low g target (class_of_method g method) f b)).throws start f s
+    (CallResult w b (b + slot g (kind_or (kind_of_result g method) kind.Int)) s)
     (as_wanted w (then_with (target_of of fr m) (λ this h. then_with (in_order cs fr h) (λ vs l. entered run method this vs l))))
     (go p n (with_target g inline method as_ w f b (target_low g target (class_of_method g method) f b)).steps s)
 called_shows p n g run inline method None None as_ cs w start f b s fr m inlines claim claims frame above ready =

@@ -1,38 +1,27 @@
 -- Expressions without calls: what their steps show.
-use Rattle.std.proofs.Common.{◌≡◌, ℕ, zero, suc, ◌+◌, ◌<◌, ◌≤◌, Bool, true, false, not, List, [], ◌∷◌, ◌++◌, Option, Some, None, refl, sym, ◌∙◌, ap, subst, arith}
-use Rattle.std.specs.Prelude.{◌||◌, ℤ, pos, nat_lt, if◌then◌else◌, option_and_then, option_map, map, length, slice_get}
+use Rattle.std.proofs.Common.{◌≡◌, ℕ, ◌+◌, ◌<◌, ◌≤◌, Bool, true, false, List, [], ◌∷◌, ◌++◌, Some, refl, sym, ◌∙◌, subst, arith}
+use Rattle.std.specs.Prelude.{◌||◌, nat_lt, if◌then◌else◌, length}
 use Rattle.std.proofs.lemmas.Bool.{false≢true}
 use Rattle.std.proofs.lemmas.Bool.Decides.{nat_tests}
 use Rattle.taco_unit.specs.declared.kind.Kind.{Kind}
 use Rattle.taco_unit.specs.declared.kind.Kind.TheVariants as kind
 use Rattle.taco_unit.specs.declared.expr.Op.{Op}
-use Rattle.taco_unit.specs.declared.expr.Op.TheVariants as op
-use Rattle.taco_unit.specs.declared.unit.ClassDef.{ClassDef}
 use Rattle.heap_core.specs.declared.value.Value.{Value}
-use Rattle.heap_core.specs.declared.value.Value.TheVariants.{Null, Obj, Num, Flag}
-use Rattle.heap_core.specs.declared.value.Object.{Object}
-use Rattle.heap_core.specs.declared.value.Seen.{Seen}
-use Rattle.heap_core.specs.declared.value.Seen.TheVariants.{Is, Bad, Out}
 use Rattle.heap_core.specs.Posed.{Posed}
-use Rattle.heap_core.specs.Outcomes.{number, value_in, on_number, negative, opposite, operated, same}
-use Rattle.heap_core.specs.Heap.{Heap, cell, cell_of, field, grown}
-use Rattle.heap_core.specs.Exec.{Memory, Ends, Gives, Throws, Leaves, Frame, Code, then_with, ends_as, on_test, then_test, as_test, on_object, gives_in, read, make, with_heap, combined}
-use Rattle.dyn_core.specs.declared.prog.Act.{Act}
-use Rattle.dyn_core.specs.declared.prog.Act.TheVariants.{Copy, Const, Diff, Same, Read, Make}
+use Rattle.heap_core.specs.Outcomes.{operated}
+use Rattle.heap_core.specs.Exec.{Memory, Ends, Gives, Leaves, Frame, Code, then_with, ends_as}
 use Rattle.dyn_core.specs.declared.state.DynState.{DynState}
-use Rattle.dyn_core.specs.States.{var_at, with_var}
-use Rattle.dyn_core.specs.Actions.{with_given, acted}
-use Rattle.dyn_core.proofs.Vars.{var_set}
+use Rattle.dyn_core.specs.States.{var_at}
 use Rattle.dyn_plan.specs.declared.plan.Plan.{Plan}
 use Rattle.dyn_plan.specs.declared.plan.Plan.TheVariants as l
-use Rattle.dyn_plan.specs.Plans.{by_flag, next, go}
-use Rattle.dyn_plan.specs.Places.{Ground, Spots, width, slot, behind, flag_of, is_receiver}
-use Rattle.dyn_plan.specs.Guards.{Lowered, guarded, nowhere, at_once, in_place, null_at, through}
-use Rattle.dyn_plan.specs.Expressions.{Low, class_of_field, kind_of_field, kind_of_op, operand_kind, operation, behind_both, after_both, as_truth, short, combined_low, after_one, read_low, found, this_low}
-use Rattle.dyn_plan.proofs.PlanForms.{next_do, next_if, next_fail}
-use Rattle.dyn_plan.proofs.Shown.{set, IsKept, kept_set, kept_same, kept_then, Stands, moving, Remembers, ThisIs, HasFlags, IsFrame, IsOpen, IsReady, Each, HasGiven, HasThrown, Shows, weaker, shows_from, then_shows, ready_on, go_one, go_append, Skips, skips_both, guard_skips, guard_opens}
-use Rattle.dyn_plan.proofs.Operations.{IsDefined, number_defined, opposite_defined, negative_defined, go_do, did, did_both, operation_shows, NullThere, null_there, same_false, same_defined}
-use Rattle.dyn_plan.proofs.NullTests.{OnObject, through_shows}
+use Rattle.dyn_plan.specs.Plans.{go}
+use Rattle.dyn_plan.specs.Places.{Ground, Spots, width, slot, behind}
+use Rattle.dyn_plan.specs.Guards.{Lowered, guarded}
+use Rattle.dyn_plan.specs.Expressions.{Low, kind_of_op, operation, behind_both, after_both}
+use Rattle.dyn_plan.proofs.PlanForms.{next_fail}
+use Rattle.dyn_plan.proofs.Shown.{IsKept, kept_same, kept_then, moving, Remembers, IsFrame, IsReady, HasGiven}
+use Rattle.dyn_plan.proofs.Shown.{Shows, shows_from, then_shows, ready_on, go_one, Skips, skips_both, guard_skips, guard_opens}
+use Rattle.dyn_plan.proofs.Operations.{operation_shows}
 
 -- ## rows
 
@@ -70,7 +59,8 @@ pub record Claim (p : Posed) (n : ℕ) (g : Ground) (l : Low) (c : Code) : Type 
       → Shows (l.low k f b).throws start f s (HasGiven b (l.low k f b).place s) (c fr m) (go p n (l.low k f b).steps s)
 
 -- an operand, and then what comes behind it
-pub operand_then : (p : Posed) (n : ℕ) (g : Ground) (low : Low) (c : Code) (before t : Bool) (start : ℕ) (f : Spots) (k : Kind) (b : ℕ) (s u : DynState) (fr : Frame) (m : Memory) {B : Type 0} (R : B → Memory → DynState → Type 0) (on : Value → Memory → Ends B) (rest : List Plan)
+pub operand_then : (p : Posed) (n : ℕ) (g : Ground) (low : Low) (c : Code) (before t : Bool) (start : ℕ) (f : Spots) (k : Kind) (b : ℕ) (s u : DynState) (fr : Frame)
+    (m : Memory) {B : Type 0} (R : B → Memory → DynState → Type 0) (on : Value → Memory → Ends B) (rest : List Plan)
     → Claim p n g low c → IsFrame g start f → f.base ≤ b → IsKept start s u → IsReady g f fr m u
     → ((low.low k f b).throws ≡ true → Skips p n f rest) → ((low.low k f b).throws ≡ true → t ≡ true)
     → ((v : Value) (h : Memory) (r : DynState) → HasGiven b (low.low k f b).place u v h r → IsReady g f fr h r → Shows t start f s R (on v h) (go p n rest r))
@@ -82,14 +72,16 @@ operand_then p n g low c before t start f k b s u fr m R on rest claim frame abo
     first : Shows (low.low k f b).throws start f s (HasGiven b (low.low k f b).place u) (c fr m) (go p n (guarded f before (low.low k f b).steps) u)
     first =
         subst (Shows (low.low k f b).throws start f s (HasGiven b (low.low k f b).place u) (c fr m)) (sym (guard_opens p n f before (low.low k f b).steps u ready.opened.done))
-        (shows_from (low.low k f b).throws start start f s u (HasGiven b (low.low k f b).place u) (HasGiven b (low.low k f b).place u) (c fr m) (go p n (low.low k f b).steps u) (omega arith) kept (λ v h r given. given)
+        (shows_from (low.low k f b).throws start start f s u (HasGiven b (low.low k f b).place u) (HasGiven b (low.low k f b).place u) (c fr m) (go p n (low.low k f b).steps u)
+        (omega arith) kept (λ v h r given. given)
         (claim.shows start f k b u fr m frame above ready))
 
 -- a value that stands there already
 pub stays : (t : Bool) (start b x : ℕ) (f : Spots) (m : Memory) (s : DynState) (v : Value) → var_at s.vars x ≡ v → Remembers m s → Shows t start f s (HasGiven b x s) (Gives v m) (Some s)
 stays t start b x f m s v is memory = record { memory = memory; value = is; kept = kept_same b s }
 
-pub goes_nowhere : (p : Posed) (n : ℕ) (t : Bool) (start : ℕ) (f : Spots) (s u : DynState) {A : Type 0} (Q : A → Memory → DynState → Type 0) → Shows t start f s Q Leaves (go p n (l.Fail ∷ []) u)
+pub goes_nowhere : (p : Posed) (n : ℕ) (t : Bool) (start : ℕ) (f : Spots) (s u : DynState) {A : Type 0} (Q : A → Memory → DynState → Type 0)
+    → Shows t start f s Q Leaves (go p n (l.Fail ∷ []) u)
 goes_nowhere p n t start f s u Q = subst (Shows t start f s Q Leaves) (sym (go_one p n l.Fail u ∙ next_fail p n u)) tt
 
 -- ## operands
@@ -105,7 +97,8 @@ pub both_claim : (p : Posed) (n : ℕ) (g : Ground) (o : Op) (k : Kind) (a c : L
     (then_with (d fr m) (λ v h. then_with (e fr h) (λ w j. ends_as j (operated o p.scope.ints v w))))
     (go p n (after_both g o f b (a.low k f b) (c.low k f (behind g b (a.low k f b).place))).steps s)
 both_claim p n g o k a c d e start f b s fr m one two frame above ready =
-    operand_then p n g a d false (x.throws || y.throws) start f k b s s fr m (HasGiven b r s) (λ v h. then_with (e fr h) (λ w j. ends_as j (operated o p.scope.ints v w))) (guarded f x.throws y.steps ++ last)
+    operand_then p n g a d false (x.throws || y.throws) start f k b s s fr m (HasGiven b r s) (λ v h. then_with (e fr h) (λ w j. ends_as j (operated o p.scope.ints v w)))
+    (guarded f x.throws y.steps ++ last)
     one frame above (kept_same start s) ready
     (λ is. skips_both p n f (guarded f x.throws y.steps) last (guard_skips p n f x.throws y.steps is) (guard_skips p n f (x.throws || y.throws) act (or_left x.throws y.throws is)))
     (or_left x.throws y.throws)
@@ -142,7 +135,8 @@ both_claim p n g o k a c d e start f b s fr m one two frame above ready =
     y_near : (c.low k f (behind g b (a.low k f b).place)).place < behind g b (a.low k f b).place + width g
     y_near = two.near start f k (behind g b (a.low k f b).place) frame base_further
 
-    y_behind : (behind g b (a.low k f b).place ≤ behind_both g b (a.low k f b) (c.low k f (behind g b (a.low k f b).place))) × ((c.low k f (behind g b (a.low k f b).place)).place < behind_both g b (a.low k f b) (c.low k f (behind g b (a.low k f b).place)))
+    y_behind : (behind g b (a.low k f b).place ≤ behind_both g b (a.low k f b) (c.low k f (behind g b (a.low k f b).place))) ×
+        ((c.low k f (behind g b (a.low k f b).place)).place < behind_both g b (a.low k f b) (c.low k f (behind g b (a.low k f b).place)))
     y_behind = behind_above g (behind g b (a.low k f b).place) (c.low k f (behind g b (a.low k f b).place)).place y_near
 
     base_above : start ≤ b
@@ -152,16 +146,19 @@ both_claim p n g o k a c d e start f b s fr m one two frame above ready =
     still_below = let far = frame.flags.still in let ordered = frame.flags.ordered in omega arith
 
     act : List Plan
-    act = operation g o (b + slot g (kind_of_op o)) (behind_both g b (a.low k f b) (c.low k f (behind g b (a.low k f b).place)) + 1) (a.low k f b).place (c.low k f (behind g b (a.low k f b).place)).place
+    act = operation g o (b + slot g (kind_of_op o)) (behind_both g b (a.low k f b) (c.low k f (behind g b (a.low k f b).place)) + 1) (a.low k f b).place
+        (c.low k f (behind g b (a.low k f b).place)).place
 
     last : List Plan
     last = guarded f ((a.low k f b).throws || (c.low k f (behind g b (a.low k f b).place)).throws) act
 
-    at : (v w : Value) (j : Memory) (q : DynState) → IsKept b s q → var_at q.vars (a.low k f b).place ≡ v → var_at q.vars (c.low k f (behind g b (a.low k f b).place)).place ≡ w → IsReady g f fr j q → Shows (x.throws || y.throws) start f s (HasGiven b r s) (ends_as j (operated o p.scope.ints v w)) (go p n last q)
+    at : (v w : Value) (j : Memory) (q : DynState) → IsKept b s q → var_at q.vars (a.low k f b).place ≡ v → var_at q.vars (c.low k f (behind g b (a.low k f b).place)).place ≡ w
+        → IsReady g f fr j q → Shows (x.throws || y.throws) start f s (HasGiven b r s) (ends_as j (operated o p.scope.ints v w)) (go p n last q)
     at v w j q kept first second now =
         subst (Shows (x.throws || y.throws) start f s (HasGiven b r s) (ends_as j (operated o p.scope.ints v w))) (sym (guard_opens p n f (x.throws || y.throws) act q now.opened.done))
         (shows_from (x.throws || y.throws) start b f s q (HasGiven b r q) (HasGiven b r s) (ends_as j (operated o p.scope.ints v w)) (go p n act q) base_above kept
         (λ z i u given. given_from b b r s q u z i (omega arith) kept given)
         (subst (λ z. Shows (x.throws || y.throws) start f q (HasGiven b r q) (ends_as j (operated o p.scope.ints z w)) (go p n act q)) first
         (subst (λ z. Shows (x.throws || y.throws) start f q (HasGiven b r q) (ends_as j (operated o p.scope.ints (var_at q.vars x.place) z)) (go p n act q)) second
-        (operation_shows p n g (x.throws || y.throws) start b r (behind_both g b x y + 1) x.place y.place f j q o still_below (omega arith) (let far = x_behind.0 in let further = y_behind.0 in omega arith) (λ same. let before = y_behind.1 in omega arith) now.opened.still now.opened.memory))))
+        (operation_shows p n g (x.throws || y.throws) start b r (behind_both g b x y + 1) x.place y.place f j q o still_below (omega arith)
+        (let far = x_behind.0 in let further = y_behind.0 in omega arith) (λ same. let before = y_behind.1 in omega arith) now.opened.still now.opened.memory))))

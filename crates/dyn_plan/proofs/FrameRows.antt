@@ -1,31 +1,29 @@
 -- The frame of an inlined method: where its variables stand, and what its beginning does.
-use Rattle.std.proofs.Common.{◌≡◌, ℕ, zero, suc, ◌+◌, ◌<◌, ◌≤◌, Bool, true, false, List, [], ◌∷◌, ◌++◌, Option, Some, None, refl, sym, ◌∙◌, ap, subst, arith}
-use Rattle.std.specs.Prelude.{◌==◌, ◌-◌, ◌^◌, nat_lt, pos, if◌then◌else◌, option_and_then, map, length, slice_get}
+use Rattle.std.proofs.Common.{◌≡◌, ℕ, ◌+◌, ◌<◌, ◌≤◌, Bool, true, false, List, [], ◌∷◌, ◌++◌, Option, Some, refl, sym, ◌∙◌, ap, arith}
+use Rattle.std.specs.Prelude.{◌==◌, ◌-◌, ◌^◌, nat_lt, pos, if◌then◌else◌, option_and_then, map}
 use Rattle.std.proofs.lemmas.Bool.{false≢true, lt-ltb, eqb-true, eq-eqb}
 use Rattle.std.proofs.lemmas.Nat.{pow_pos}
 use Rattle.taco_unit.specs.declared.kind.Kind.{Kind}
 use Rattle.taco_unit.specs.declared.kind.Kind.TheVariants as kind
 use Rattle.taco_unit.specs.declared.unit.MethodDef.{MethodDef}
 use Rattle.taco_unit.specs.Well.{param_kinds}
-use Rattle.heap_core.proofs.FieldLaws.{none_some, some_same}
 use Rattle.heap_core.specs.declared.value.Value.{Value}
-use Rattle.heap_core.specs.declared.value.Value.TheVariants.{Null, Obj, Num, Flag}
-use Rattle.heap_core.specs.declared.value.Seen.{Seen}
+use Rattle.heap_core.specs.declared.value.Value.TheVariants.{Num, Flag}
 use Rattle.heap_core.specs.declared.value.Seen.TheVariants.{Is, Out}
 use Rattle.heap_core.specs.Posed.{Posed}
-use Rattle.heap_core.specs.Outcomes.{zero_of, number}
+use Rattle.heap_core.specs.Outcomes.{zero_of}
 use Rattle.heap_core.specs.Exec.{Memory, Frame}
 use Rattle.dyn_core.specs.declared.prog.Act.TheVariants.{Copy, Const}
 use Rattle.dyn_core.specs.declared.state.DynState.{DynState}
 use Rattle.dyn_core.specs.States.{var_at, with_var}
-use Rattle.dyn_core.specs.Actions.{with_given, constant, acted}
+use Rattle.dyn_core.specs.Actions.{with_given, constant}
 use Rattle.dyn_core.proofs.Vars.{var_set, var_apart}
 use Rattle.dyn_plan.specs.declared.plan.Plan.{Plan}
 use Rattle.dyn_plan.specs.declared.plan.Plan.TheVariants as l
 use Rattle.dyn_plan.specs.Plans.{go}
 use Rattle.dyn_plan.specs.Places.{Ground, Spots, width, slot, in_rows, past_rows, first_kind, later_kinds, for_each_argument}
-use Rattle.dyn_plan.specs.Frames.{result_of, local_kinds, frame_at, frame_of, fill, prologue}
-use Rattle.dyn_plan.proofs.Shown.{set, IsKept, kept_set, kept_same, kept_then, Stands, stands_on, moving, Remembers, ThisIs, HasFlags, IsFrame, IsOpen, IsReady, Each, Rising, this_on, go_append}
+use Rattle.dyn_plan.specs.Frames.{result_of, local_kinds, frame_of, fill, prologue}
+use Rattle.dyn_plan.proofs.Shown.{set, IsKept, kept_set, kept_same, kept_then, Stands, stands_on, moving, Remembers, ThisIs, IsFrame, IsReady, Each, Rising, this_on, go_append}
 use Rattle.dyn_plan.proofs.Operations.{go_do}
 use Rattle.dyn_plan.proofs.ExprShown.{slot_below}
 
@@ -50,7 +48,8 @@ rows_rise : (g : Ground) (b : ℕ) (ks : List Kind) → Rising (in_rows g b ks)
 rows_rise g b [] = tt
 rows_rise g b (k ∷ ks) =
     let below = slot_below g k in (
-      each_map (λ y. (b + width g ≤ y) × (y < past_rows g (b + width g) ks)) (λ y. b + slot g k < y) (in_rows g (b + width g) ks) (λ y far. let above = far.0 in omega arith) (rows_within g (b + width g) (b + width g) ks (omega arith)),
+      each_map (λ y. (b + width g ≤ y) × (y < past_rows g (b + width g) ks)) (λ y. b + slot g k < y) (in_rows g (b + width g) ks) (λ y far. let above = far.0 in omega arith)
+          (rows_within g (b + width g) (b + width g) ks (omega arith)),
       rows_rise g (b + width g) ks,
     )
 
@@ -75,7 +74,8 @@ frame_is g d this args w b still below =
       result_below = omega arith;
       result_apart = λ same. omega arith;
       result_apart_thrown = λ same. omega arith;
-      locals = each_map (λ y. (b ≤ y) × (y < e)) (λ y. (b ≤ y) × (y < e + width g + width g + width g) × (y ≡ e + 1 → ⊥) × (y ≡ e + width g + 1 → ⊥) × (y ≡ e + width g + width g + slot g (result_of d) → ⊥)) (in_rows g b ks)
+      locals = each_map (λ y. (b ≤ y) × (y < e)) (λ y. (b ≤ y) × (y < e + width g + width g + width g) × (y ≡ e + 1 → ⊥) × (y ≡ e + width g + 1 → ⊥) ×
+          (y ≡ e + width g + width g + slot g (result_of d) → ⊥)) (in_rows g b ks)
           (λ y within. let above = within.0 in let low = within.1 in (omega arith, omega arith, (λ same. omega arith), (λ same. omega arith), (λ same. omega arith)))
           (rows_within g b b ks (omega arith));
       rising = rows_rise g b ks;
@@ -129,7 +129,8 @@ fill_zeros p n g b (k ∷ ks) s =
     }
 
 fill_all : (p : Posed) (n : ℕ) (g : Ground) (c b : ℕ) (ps ls : List Kind) (xs : List ℕ) (s : DynState) → c ≤ b → Each (λ x. x < c) xs
-    → Filled p n b s (fill (in_rows g b (for_each_argument ps xs ++ ls)) xs (for_each_argument ps xs ++ ls)) (in_rows g b (for_each_argument ps xs ++ ls)) (map (var_at s.vars) xs ++ map zero_of ls)
+    → Filled p n b s (fill (in_rows g b (for_each_argument ps xs ++ ls)) xs (for_each_argument ps xs ++ ls)) (in_rows g b (for_each_argument ps xs ++ ls))
+    (map (var_at s.vars) xs ++ map zero_of ls)
 fill_all p n g c b ps ls [] s low each = fill_zeros p n g b ls s
 fill_all p n g c b ps ls (x ∷ xs) s low each =
     let k : Kind = first_kind ps in
@@ -181,7 +182,8 @@ begins p n g d this args w b m s v vs still stands memory this_is below each val
       ready = record {
         opened = record {
           memory = filled.memory ∙ memory;
-          done = var_apart two.vars f.result (zero_of f.gives) f.done (λ same. frame.result_apart (sym same)) ∙ var_apart one.vars f.thrown (Flag false) f.done frame.flags.apart ∙ var_set filled.state.vars f.done (Flag false);
+          done = var_apart two.vars f.result (zero_of f.gives) f.done (λ same. frame.result_apart (sym same)) ∙ var_apart one.vars f.thrown (Flag false) f.done frame.flags.apart
+              ∙ var_set filled.state.vars f.done (Flag false);
           thrown = var_apart two.vars f.result (zero_of f.gives) f.thrown (λ same. frame.result_apart_thrown (sym same)) ∙ var_set one.vars f.thrown (Flag false);
           still = stands_on g b s last still kept stands;
         };
@@ -197,7 +199,8 @@ begins p n g d this args w b m s v vs still stands memory this_is below each val
     keep_locals x y z w base q [] each = refl
     keep_locals x y z w base q (i ∷ is) each =
         rw (
-          var_apart (with_var (with_var q.vars x (Flag false)) y (Flag false)) z w i each.0.4 ∙ var_apart (with_var q.vars x (Flag false)) y (Flag false) i each.0.3 ∙ var_apart q.vars x (Flag false) i each.0.2,
+          var_apart (with_var (with_var q.vars x (Flag false)) y (Flag false)) z w i each.0.4 ∙ var_apart (with_var q.vars x (Flag false)) y (Flag false) i each.0.3
+              ∙ var_apart q.vars x (Flag false) i each.0.2,
           keep_locals x y z w base q is each.1,
         ) refl
 

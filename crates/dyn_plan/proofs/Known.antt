@@ -1,20 +1,19 @@
 -- Expressions and statements whose lowering computes: built of their parts, as the worked rows use them.
-use Rattle.std.proofs.Common.{◌≡◌, ℕ, Bool, false, List, [], ◌∷◌, Option, Some, None, refl, ◌∙◌, ap}
-use Rattle.std.specs.Prelude.{ℤ, map, slice_get, option_map}
-use Rattle.taco_unit.specs.declared.kind.Kind.TheVariants.{Int, Flag, Ref}
+use Rattle.std.proofs.Common.{◌≡◌, ℕ, Bool, false, List, [], ◌∷◌, Some, None, refl, ◌∙◌, ap}
+use Rattle.std.specs.Prelude.{ℤ, map, slice_get}
+use Rattle.taco_unit.specs.declared.kind.Kind.TheVariants.{Int, Flag}
 use Rattle.taco_unit.specs.declared.expr.Op.{Op}
 use Rattle.taco_unit.specs.declared.expr.Expr.{Expr}
 use Rattle.taco_unit.specs.declared.expr.Call.{Call, roll-Call}
-use Rattle.taco_unit.specs.declared.expr.Expr.TheOpen.{Expr-F, Call-F}
+use Rattle.taco_unit.specs.declared.expr.Expr.TheOpen.{Expr-F}
 use Rattle.taco_unit.specs.declared.expr.Expr.TheVariants as e
 use Rattle.taco_unit.specs.declared.stmt.Stmt.{Stmt}
-use Rattle.taco_unit.specs.declared.stmt.Stmt.TheOpen.{Stmt-F}
 use Rattle.taco_unit.specs.declared.stmt.Stmt.TheVariants as s
-use Rattle.dyn_plan.specs.Places.{Ground, Spots, behind}
+use Rattle.dyn_plan.specs.Places.{Ground, Spots}
 use Rattle.dyn_plan.specs.Guards.{Lowered}
 use Rattle.dyn_plan.specs.Expressions.{Low, LowCall, Inline, kind_or, expr_step, called_low, low_expr, low_call}
-use Rattle.dyn_plan.specs.Statements.{Laid, Lay, value_then, set_to, lay_block, step_local, while_low, return_value, lay}
-use Rattle.dyn_plan.proofs.LowForms.{is_num, is_flag, is_local, is_read, is_bin, is_call, is_called, lay_block as block_form, lay_set, lay_step_local, lay_while, lay_return}
+use Rattle.dyn_plan.specs.Statements.{Laid, value_then, set_to, lay_block, step_local, while_low, return_value, lay}
+use Rattle.dyn_plan.proofs.LowForms.{is_num, is_local, is_read, is_bin, is_call, is_called, lay_block as block_form, lay_set, lay_step_local, lay_while, lay_return}
 
 pub record KnownExpr (g : Ground) (inline : Inline) (a : Expr) : Type 0 where
   pub low : Low

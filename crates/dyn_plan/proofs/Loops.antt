@@ -1,48 +1,28 @@
 -- Loops: their steps show what they do, by induction on the turns.
-use Rattle.std.proofs.Common.{◌≡◌, ℕ, zero, suc, ◌+◌, ◌<◌, ◌≤◌, Bool, true, false, not, List, [], ◌∷◌, ◌++◌, Option, Some, None, refl, sym, ◌∙◌, ap, subst, arith}
-use Rattle.std.specs.Prelude.{◌||◌, pos, nat_lt, if◌then◌else◌, option_and_then, option_map, map, length, slice_get, slice_set, is_some}
+use Rattle.std.proofs.Common.{◌≡◌, ℕ, zero, suc, ◌+◌, Bool, true, false, List, [], ◌∷◌, ◌++◌, Option, Some, None, refl, sym, ◌∙◌, ap, subst, arith}
+use Rattle.std.specs.Prelude.{◌||◌, if◌then◌else◌, option_and_then}
 use Rattle.std.proofs.lemmas.Bool.{false≢true}
-use Rattle.std.proofs.lemmas.Bool.Decides.{nat_tests}
-use Rattle.std.proofs.lemmas.Option.{slice_get-map}
-use Rattle.taco_unit.specs.declared.kind.Kind.{Kind}
 use Rattle.taco_unit.specs.declared.kind.Kind.TheVariants as kind
-use Rattle.taco_unit.specs.declared.expr.Op.TheVariants as op
-use Rattle.taco_unit.specs.declared.unit.ClassDef.{ClassDef}
 use Rattle.heap_core.specs.declared.value.Value.{Value}
 use Rattle.heap_core.specs.declared.value.Value.TheVariants.{Null, Obj, Num, Flag}
-use Rattle.heap_core.specs.declared.value.Seen.{Seen}
-use Rattle.heap_core.specs.declared.value.Seen.TheVariants.{Is, Bad, Out}
 use Rattle.heap_core.specs.Posed.{Posed}
-use Rattle.heap_core.specs.Outcomes.{operated}
-use Rattle.heap_core.specs.Heap.{Heap, put}
-use Rattle.heap_core.specs.Exec.{Memory, Ends, Gives, Throws, Leaves, Exit, Goes, Returns, Raises, Stops, Frame, Code, Body, then_with, ends_as, on_object, gives_in, read, write, with_heap, after, on_branch, after_test, then_do, then_body, in_turn, set_local, stepped, step_field}
-use Rattle.heap_core.proofs.FieldLaws.{none_some, some_same}
-use Rattle.dyn_core.specs.declared.prog.Act.{Act}
-use Rattle.dyn_core.specs.declared.prog.Act.TheVariants.{Copy, Const, Sum, Diff, Read, Write}
+use Rattle.heap_core.specs.Exec.{Memory, Ends, Gives, Throws, Leaves, Exit, Goes, Returns, Raises, Stops, Frame, Code, Body, after, on_branch, then_do, then_body}
+use Rattle.dyn_core.specs.declared.prog.Act.TheVariants.{Copy, Const}
 use Rattle.dyn_core.specs.declared.state.DynState.{DynState}
-use Rattle.dyn_core.specs.States.{var_at, with_var}
-use Rattle.dyn_core.specs.Actions.{with_given, put_through, acted}
-use Rattle.dyn_core.proofs.Vars.{var_set, var_apart}
+use Rattle.dyn_core.specs.States.{var_at}
+use Rattle.dyn_core.proofs.Vars.{var_set}
 use Rattle.dyn_plan.specs.declared.plan.Plan.{Plan}
 use Rattle.dyn_plan.specs.declared.plan.Plan.TheVariants as l
-use Rattle.dyn_plan.specs.Plans.{by_flag, next, go}
-use Rattle.dyn_plan.specs.Places.{Ground, Spots, width, slot, behind, one_number, is_receiver}
-use Rattle.dyn_plan.specs.Guards.{Lowered, guarded, set_done, through}
-use Rattle.dyn_plan.specs.Expressions.{Low, class_of_field, kind_of_field, behind_both}
-use Rattle.dyn_plan.specs.Statements.{Laid, Lay, stops, value_then, with_next, lay_block, set_to, step_by_one, step_local, write_low, step_field_low, if_low}
+use Rattle.dyn_plan.specs.Plans.{by_flag, go}
+use Rattle.dyn_plan.specs.Places.{Ground, Spots}
+use Rattle.dyn_plan.specs.Guards.{Lowered, guarded}
+use Rattle.dyn_plan.specs.Expressions.{Low}
+use Rattle.dyn_plan.specs.Statements.{Laid, Lay, stops}
 use Rattle.dyn_plan.proofs.PlanForms.{next_do, next_if, next_fail}
-use Rattle.dyn_plan.proofs.Shown.{set, IsKept, kept_set, kept_same, kept_then, Stands, stands_on, moving, Remembers, ThisIs, HasFlags, IsFrame, IsOpen, IsReady, Each, Rising, HasGiven, HasThrown, Shows, shows_from, then_shows, this_on, ready_on, go_one, go_append, Skips, skips_none, skips_both, guard_skips, guard_opens}
-use Rattle.dyn_plan.proofs.Operations.{IsDefined, go_do, did, number_defined}
-use Rattle.dyn_plan.proofs.NullTests.{OnObject, through_shows}
-use Rattle.dyn_plan.proofs.ExprShown.{behind_above, or_left, or_right, Claim, given_from}
-use Rattle.dyn_plan.proofs.FormShown.{each_at, field_shows}
-use Rattle.heap_core.specs.Exec.{give_back}
-use Rattle.dyn_plan.specs.Expressions.{kind_or}
-use Rattle.dyn_plan.specs.Statements.{return_bare, return_value}
-use Rattle.dyn_plan.proofs.Operations.{numbers_defined}
-use Rattle.dyn_plan.proofs.CallShown.{as_wanted, CallResult, CallClaim}
+use Rattle.dyn_plan.proofs.Shown.{set, IsKept, kept_set, kept_same, IsFrame, IsReady, HasGiven, HasThrown, Shows, ready_on, go_one, go_append, guard_skips, guard_opens}
+use Rattle.dyn_plan.proofs.ExprShown.{or_left, or_right, Claim}
 use Rattle.dyn_plan.proofs.StmtForms.{wanted_then_do}
-use Rattle.dyn_plan.proofs.StmtShown.{exit_wanted, ResultIs, HasReturned, with_locals, Ended, StmtClaim, ended_from, ended_weaker, ends_nowhere, wanted_after, wanted_goes, wanted_stops, after_shows, operand_does, ended_all, local_set, set_local_is, set_shows}
+use Rattle.dyn_plan.proofs.StmtShown.{exit_wanted, ResultIs, with_locals, Ended, StmtClaim, ended_from, ended_weaker, wanted_after, wanted_goes, wanted_stops}
 use Rattle.heap_core.specs.Exec.{turns}
 use Rattle.dyn_plan.specs.Plans.{while_true}
 use Rattle.dyn_plan.specs.Statements.{settled, asked, loop_low, turnless_low, while_low}
@@ -78,7 +58,8 @@ settled_done p n f true x y s is done =
     ∙ go_one p n (l.Do (Const x (Flag false))) s ∙ next_do p n (Const x (Flag false)) s
 
 -- the whole test, where the frame is done before it
-asked_done : (p : Posed) (n : ℕ) (f : Spots) (t : Bool) (a : Lowered) (x : ℕ) (s : DynState) → t ≡ true → var_at s.vars f.done ≡ Flag true → go p n (asked f t a x) s ≡ Some (set x (Flag false) s)
+asked_done : (p : Posed) (n : ℕ) (f : Spots) (t : Bool) (a : Lowered) (x : ℕ) (s : DynState) → t ≡ true → var_at s.vars f.done ≡ Flag true
+    → go p n (asked f t a x) s ≡ Some (set x (Flag false) s)
 asked_done p n f t a x s is done =
     go_append p n (guarded f t a.steps) (settled f (t || a.throws) x a.place) s
     ∙ ap (option_and_then (go p n (settled f (t || a.throws) x a.place))) (guard_skips p n f t a.steps is s done)
@@ -99,7 +80,8 @@ asked_shows p n g a d t start f s q fr m claim frame ready kept =
     last : List Plan
     last = settled f (t || (a.low kind.Flag f f.base).throws) (f.base + 1) (a.low kind.Flag f f.base).place
 
-    leads : go p n (asked f t (a.low kind.Flag f f.base) (f.base + 1)) q ≡ option_and_then (go p n (settled f (t || (a.low kind.Flag f f.base).throws) (f.base + 1) (a.low kind.Flag f f.base).place)) (go p n (a.low kind.Flag f f.base).steps q)
+    leads : go p n (asked f t (a.low kind.Flag f f.base) (f.base + 1)) q ≡ option_and_then
+        (go p n (settled f (t || (a.low kind.Flag f f.base).throws) (f.base + 1) (a.low kind.Flag f f.base).place)) (go p n (a.low kind.Flag f f.base).steps q)
     leads = go_append p n (guarded f t x.steps) last q ∙ ap (option_and_then (go p n last)) (guard_opens p n f t x.steps q ready.opened.done)
 
     both : (e : Ends Value) (o : Option DynState) → Shows x.throws start f q (HasGiven f.base x.place q) e o → Asked g x.throws start f fr y s e (option_and_then (go p n last) o)
@@ -186,7 +168,8 @@ LoopRest p n g t r start f d c turn k = (fr : Frame) (s q : DynState) (v : Value
     → Ended g t r start f fr s (exit_wanted f.wanted (on_branch (branch k d c fr) v h)) (while_true k (f.base + 1) (go p n turn) q)
 
 -- from what the test shows
-from_test : (p : Posed) (n : ℕ) (g : Ground) (t r : Bool) (start : ℕ) (f : Spots) (d : Code) (c : Body) (turn : List Plan) (k : ℕ) (u : Bool) (fr : Frame) (s : DynState) (e : Ends Value) (o : Option DynState)
+from_test : (p : Posed) (n : ℕ) (g : Ground) (t r : Bool) (start : ℕ) (f : Spots) (d : Code) (c : Body) (turn : List Plan) (k : ℕ) (u : Bool) (fr : Frame) (s : DynState)
+    (e : Ends Value) (o : Option DynState)
     → LoopRest p n g t r start f d c turn k → (u ≡ true → t ≡ true) → Asked g u start f fr (f.base + 1) s e o
     → Ended g t r start f fr s (after e (λ v h. exit_wanted f.wanted (on_branch (branch k d c fr) v h))) (option_and_then (while_true k (f.base + 1) (go p n turn)) o)
 from_test p n g t r start f d c turn k u fr s (Gives v h) (Some q) rest more asked_ = rest fr s q v h asked_.0 asked_.2 asked_.1
@@ -198,12 +181,14 @@ from_test p n g t r start f d c turn k u fr s Leaves (Some q) rest more asked_ =
 from_test p n g t r start f d c turn k u fr s Leaves None rest more asked_ = tt
 
 -- what happens behind the body
-behind_body : (p : Posed) (n : ℕ) (g : Ground) (a : Low) (d : Code) (c : Body) (y : Laid) (t r : Bool) (start : ℕ) (f : Spots) (k : ℕ) (fr : Frame) (s : DynState) (e : Exit) (o : Option DynState)
+behind_body : (p : Posed) (n : ℕ) (g : Ground) (a : Low) (d : Code) (c : Body) (y : Laid) (t r : Bool) (start : ℕ) (f : Spots) (k : ℕ) (fr : Frame) (s : DynState) (e : Exit)
+    (o : Option DynState)
     → Claim p n g a d → IsFrame g start f → (y.throws ≡ true → t ≡ true) → (y.returns ≡ true → r ≡ true) → ((a.low kind.Flag f f.base).throws ≡ true → t ≡ true)
     → LoopRest p n g t r start f d c (y.steps ++ asked f (stops y) (a.low kind.Flag f f.base) (f.base + 1)) k
     → Ended g y.throws y.returns start f fr s e o
     → Ended g t r start f fr s (then_do e (λ ls m. exit_wanted f.wanted (turns k d c (with_locals fr ls) m)))
-    (option_and_then (while_true k (f.base + 1) (go p n (y.steps ++ asked f (stops y) (a.low kind.Flag f f.base) (f.base + 1)))) (option_and_then (go p n (asked f (stops y) (a.low kind.Flag f f.base) (f.base + 1))) o))
+    (option_and_then (while_true k (f.base + 1) (go p n (y.steps ++ asked f (stops y) (a.low kind.Flag f f.base) (f.base + 1))))
+    (option_and_then (go p n (asked f (stops y) (a.low kind.Flag f f.base) (f.base + 1))) o))
 behind_body p n g a d c y t r start f k fr s (Goes ls m) (Some q) claim frame more again tests rest ended =
     let x : Lowered = a.low kind.Flag f f.base in
     let turn : List Plan = y.steps ++ asked f (stops y) x (f.base + 1) in
@@ -219,7 +204,8 @@ behind_body p n g a d c y t r start f k fr s (Returns v m) (Some q) claim frame 
     subst (Ended g t r start f fr s (Returns v m))
     (sym (ap (option_and_then (while_true k (f.base + 1) (go p n turn))) (asked_done p n f (stops y) x (f.base + 1) q (or_right y.throws y.returns ended.0) ended.1.done)
     ∙ loop_ends k (f.base + 1) (go p n turn) last (var_set q.vars (f.base + 1) (Flag false))))
-    (ended_weaker g y.throws y.returns t r start f fr s (Returns v m) (Some last) more again (done_on g y.throws y.returns start f fr s q (Flag false) (Returns v m) frame (λ ls h is. is_no_end ls h v m is) ended))
+    (ended_weaker g y.throws y.returns t r start f fr s (Returns v m) (Some last) more again
+    (done_on g y.throws y.returns start f fr s q (Flag false) (Returns v m) frame (λ ls h is. is_no_end ls h v m is) ended))
   where
     is_end : Exit → Bool
     is_end (Goes ls h) = true
@@ -237,7 +223,8 @@ behind_body p n g a d c y t r start f k fr s (Raises m) (Some q) claim frame mor
     subst (Ended g t r start f fr s (Raises m))
     (sym (ap (option_and_then (while_true k (f.base + 1) (go p n turn))) (asked_done p n f (stops y) x (f.base + 1) q (or_left y.throws y.returns ended.0) ended.1.done)
     ∙ loop_ends k (f.base + 1) (go p n turn) last (var_set q.vars (f.base + 1) (Flag false))))
-    (ended_weaker g y.throws y.returns t r start f fr s (Raises m) (Some last) more again (done_on g y.throws y.returns start f fr s q (Flag false) (Raises m) frame (λ ls h is. is_no_end ls h m is) ended))
+    (ended_weaker g y.throws y.returns t r start f fr s (Raises m) (Some last) more again
+    (done_on g y.throws y.returns start f fr s q (Flag false) (Raises m) frame (λ ls h is. is_no_end ls h m is) ended))
   where
     is_end : Exit → Bool
     is_end (Goes ls h) = true
@@ -252,11 +239,13 @@ behind_body p n g a d c y t r start f k fr s Stops (Some q) claim frame more aga
 behind_body p n g a d c y t r start f k fr s Stops None claim frame more again tests rest ended = tt
 
 -- the value ends the loop, or leaves the scope
-loop_stays : (g : Ground) (t r : Bool) (start : ℕ) (f : Spots) (fr : Frame) (s q : DynState) (h : Memory) → IsReady g f fr h q → IsKept start s q → Ended g t r start f fr s (exit_wanted f.wanted (Goes fr.locals h)) (Some q)
+loop_stays : (g : Ground) (t r : Bool) (start : ℕ) (f : Spots) (fr : Frame) (s q : DynState) (h : Memory) → IsReady g f fr h q → IsKept start s q
+    → Ended g t r start f fr s (exit_wanted f.wanted (Goes fr.locals h)) (Some q)
 loop_stays g t r start f fr s q h ready kept = subst (λ z. Ended g t r start f fr s z (Some q)) (sym (wanted_goes f.wanted fr.locals h)) (ready, kept)
 
 loop_rest : (p : Posed) (n : ℕ) (g : Ground) (a : Low) (d : Code) (lay : Lay) (c : Body) (t r : Bool) (start : ℕ) (f : Spots) (k : ℕ)
-    → Claim p n g a d → StmtClaim p n g lay c → IsFrame g start f → ((lay f).throws ≡ true → t ≡ true) → ((lay f).returns ≡ true → r ≡ true) → ((a.low kind.Flag f f.base).throws ≡ true → t ≡ true)
+    → Claim p n g a d → StmtClaim p n g lay c → IsFrame g start f → ((lay f).throws ≡ true → t ≡ true) → ((lay f).returns ≡ true → r ≡ true)
+    → ((a.low kind.Flag f f.base).throws ≡ true → t ≡ true)
     → LoopRest p n g t r start f d c ((lay f).steps ++ asked f (stops (lay f)) (a.low kind.Flag f f.base) (f.base + 1)) k
 loop_rest p n g a d lay c t r start f zero claim body frame more again tests fr s q v h ready kept is = rw is (by v)
   where
@@ -276,16 +265,22 @@ loop_rest p n g a d lay c t r start f (suc k) claim body frame more again tests 
     turn = (lay f).steps ++ asked f (stops (lay f)) (a.low kind.Flag f f.base) (f.base + 1)
 
     one : LoopRest p n g t r start f d c ((lay f).steps ++ asked f (stops (lay f)) (a.low kind.Flag f f.base) (f.base + 1)) k
-        → Ended g t r start f fr s (exit_wanted f.wanted (then_body (c fr h) fr (turns k d c))) (option_and_then (while_true k (f.base + 1) (go p n ((lay f).steps ++ asked f (stops (lay f)) (a.low kind.Flag f f.base) (f.base + 1)))) (go p n ((lay f).steps ++ asked f (stops (lay f)) (a.low kind.Flag f f.base) (f.base + 1)) q))
+        → Ended g t r start f fr s (exit_wanted f.wanted (then_body (c fr h) fr (turns k d c)))
+        (option_and_then (while_true k (f.base + 1) (go p n ((lay f).steps ++ asked f (stops (lay f)) (a.low kind.Flag f f.base) (f.base + 1))))
+        (go p n ((lay f).steps ++ asked f (stops (lay f)) (a.low kind.Flag f f.base) (f.base + 1)) q))
     one rest =
-        subst (λ z. Ended g t r start f fr s z (option_and_then (while_true k (f.base + 1) (go p n turn)) (go p n turn q))) (wanted_then_do f.wanted (c fr h) (λ ls m. turns k d c (with_locals fr ls) m))
-        (subst (λ o. Ended g t r start f fr s (then_do (exit_wanted f.wanted (c fr h)) (λ ls m. exit_wanted f.wanted (turns k d c (with_locals fr ls) m))) (option_and_then (while_true k (f.base + 1) (go p n turn)) o))
+        subst (λ z. Ended g t r start f fr s z (option_and_then (while_true k (f.base + 1) (go p n turn)) (go p n turn q)))
+        (wanted_then_do f.wanted (c fr h) (λ ls m. turns k d c (with_locals fr ls) m))
+        (subst (λ o. Ended g t r start f fr s (then_do (exit_wanted f.wanted (c fr h)) (λ ls m. exit_wanted f.wanted (turns k d c (with_locals fr ls) m)))
+        (option_and_then (while_true k (f.base + 1) (go p n turn)) o))
         (sym (go_append p n (lay f).steps (asked f (stops (lay f)) x (f.base + 1)) q))
         (behind_body p n g a d c (lay f) t r start f k fr s (exit_wanted f.wanted (c fr h)) (go p n (lay f).steps q) claim frame more again tests rest
         (ended_from g (lay f).throws (lay f).returns start f fr s q (exit_wanted f.wanted (c fr h)) (go p n (lay f).steps q) kept (body.shows start f q fr h frame ready))))
 
     by : (v : Value) → LoopRest p n g t r start f d c ((lay f).steps ++ asked f (stops (lay f)) (a.low kind.Flag f f.base) (f.base + 1)) k
-        → Ended g t r start f fr s (exit_wanted f.wanted (on_branch (branch (suc k) d c fr) v h)) (by_flag v (option_and_then (while_true k (f.base + 1) (go p n ((lay f).steps ++ asked f (stops (lay f)) (a.low kind.Flag f f.base) (f.base + 1)))) (go p n ((lay f).steps ++ asked f (stops (lay f)) (a.low kind.Flag f f.base) (f.base + 1)) q)) (Some q))
+        → Ended g t r start f fr s (exit_wanted f.wanted (on_branch (branch (suc k) d c fr) v h))
+        (by_flag v (option_and_then (while_true k (f.base + 1) (go p n ((lay f).steps ++ asked f (stops (lay f)) (a.low kind.Flag f f.base) (f.base + 1))))
+        (go p n ((lay f).steps ++ asked f (stops (lay f)) (a.low kind.Flag f f.base) (f.base + 1)) q)) (Some q))
     by (Flag true) rest = one rest
     by (Flag false) rest = loop_stays g t r start f fr s q h ready kept
     by Null rest = rw (wanted_stops f.wanted) tt
@@ -295,7 +290,8 @@ loop_rest p n g a d lay c t r start f (suc k) claim body frame more again tests 
 -- ## whole loops
 
 -- a loop is its first test, and then the rest
-whole : (p : Posed) (n : ℕ) (g : Ground) (a : Low) (d : Code) (c : Body) (turn : List Plan) (last : List Plan) (t r : Bool) (start : ℕ) (f : Spots) (k : ℕ) (s : DynState) (fr : Frame) (m : Memory)
+whole : (p : Posed) (n : ℕ) (g : Ground) (a : Low) (d : Code) (c : Body) (turn : List Plan) (last : List Plan) (t r : Bool) (start : ℕ) (f : Spots) (k : ℕ) (s : DynState)
+    (fr : Frame) (m : Memory)
     → Claim p n g a d → IsFrame g start f → IsReady g f fr m s → ((a.low kind.Flag f f.base).throws ≡ true → t ≡ true)
     → ((q : DynState) → go p n last q ≡ while_true k (f.base + 1) (go p n turn) q)
     → LoopRest p n g t r start f d c turn k
@@ -313,7 +309,8 @@ whole p n g a d c turn last t r start f k s fr m claim frame ready tests is rest
 
 pub while_shows : (p : Posed) (g : Ground) (a : Low) (d : Code) (lay : Lay) (c : Body) (start : ℕ) (f : Spots) (s : DynState) (fr : Frame) (m : Memory)
     → (g.turnless ≡ true → p.scope.loops ≡ 0) → Claim p p.scope.loops g a d → StmtClaim p p.scope.loops g lay c → IsFrame g start f → IsReady g f fr m s
-    → Ended g (while_low g f (a.low kind.Flag f f.base) (lay f)).throws (while_low g f (a.low kind.Flag f f.base) (lay f)).returns start f fr s (exit_wanted f.wanted (turns p.scope.loops d c fr m)) (go p p.scope.loops (while_low g f (a.low kind.Flag f f.base) (lay f)).steps s)
+    → Ended g (while_low g f (a.low kind.Flag f f.base) (lay f)).throws (while_low g f (a.low kind.Flag f f.base) (lay f)).returns start f fr s
+    (exit_wanted f.wanted (turns p.scope.loops d c fr m)) (go p p.scope.loops (while_low g f (a.low kind.Flag f f.base) (lay f)).steps s)
 while_shows p g a d lay c start f s fr m none claim body frame ready = by g.turnless none
   where
     n : ℕ
@@ -345,7 +342,8 @@ while_shows p g a d lay c start f s fr m none claim body frame ready = by g.turn
     by : (b : Bool) → (b ≡ true → p.scope.loops ≡ 0)
         → Ended g (if b then turnless_low f (a.low kind.Flag f f.base) (f.base + 1) else loop_low f (a.low kind.Flag f f.base) (lay f) (f.base + 1)).throws
         (if b then turnless_low f (a.low kind.Flag f f.base) (f.base + 1) else loop_low f (a.low kind.Flag f f.base) (lay f) (f.base + 1)).returns start f fr s
-        (exit_wanted f.wanted (turns p.scope.loops d c fr m)) (go p p.scope.loops (if b then turnless_low f (a.low kind.Flag f f.base) (f.base + 1) else loop_low f (a.low kind.Flag f f.base) (lay f) (f.base + 1)).steps s)
+        (exit_wanted f.wanted (turns p.scope.loops d c fr m))
+        (go p p.scope.loops (if b then turnless_low f (a.low kind.Flag f f.base) (f.base + 1) else loop_low f (a.low kind.Flag f f.base) (lay f) (f.base + 1)).steps s)
     by true none =
         whole p n g a d c turn (l.If (f.base + 1) (l.Fail ∷ []) [] ∷ []) x.throws false start f n s fr m claim frame ready (λ t. t) (last_is n (none refl)) (stopped n (none refl))
     by false none =

@@ -7,7 +7,7 @@ use Rattle.taco_unit.specs.declared.expr.Expr.{Expr, fold_out-Expr}
 use Rattle.taco_unit.specs.declared.expr.Call.{Call, fold_out-Call, out-Call, map-Call}
 use Rattle.taco_unit.specs.declared.expr.Quant.{Quant, fold-Quant}
 use Rattle.taco_unit.specs.declared.expr.Reach.{Reach, fold-Reach}
-use Rattle.taco_unit.specs.declared.expr.Expr.TheOpen.{Expr-F, Call-F}
+use Rattle.taco_unit.specs.declared.expr.Expr.TheOpen.{Expr-F}
 use Rattle.taco_unit.specs.declared.expr.Expr.TheVariants as e
 use Rattle.taco_unit.specs.declared.stmt.Stmt.{Stmt, fold_out-Stmt}
 use Rattle.taco_unit.specs.declared.stmt.Stmt.TheOpen.{Stmt-F}
@@ -18,7 +18,7 @@ use Rattle.dyn_plan.specs.declared.plan.Plan.TheVariants as l
 use Rattle.dyn_plan.specs.Places.{Ground, Spots}
 use Rattle.dyn_plan.specs.Expressions.{Low, LowCall, Inline, kind_step, low_step, expr_step, called_low, low_expr, low_call}
 use Rattle.dyn_plan.specs.Statements.{Lay, lay_step, lay}
-use Rattle.dyn_plan.specs.Whole.{greatest_in, greatest_of_act, greatest_step, greatest}
+use Rattle.dyn_plan.specs.Whole.{greatest_of_act, greatest_step, greatest}
 
 -- ## expressions
 
@@ -74,12 +74,19 @@ pub is_call : (g : Ground) (inline : Inline) (c : Call) → low_expr g inline (e
 is_call g inline c = rw (fold_out-Expr Low LowCall (Unit {0}) (Unit {0}) (expr_step g) (called_low g inline) (λ q. tt) (λ r. tt) (e.Call c), e.outs-Call c) refl
 
 -- a call by its parts
-call_layer : (g : Ground) (inline : Inline) (method : ℕ) (target : Option Expr) (args : List Expr) → called_low g inline (map-Call Expr Call Quant Reach Low LowCall (Unit {0}) (Unit {0}) (low_expr g inline) (low_call g inline) (fold-Quant Low LowCall (Unit {0}) (Unit {0}) (expr_step g) (called_low g inline) (λ q. tt) (λ r. tt)) (fold-Reach Low LowCall (Unit {0}) (Unit {0}) (expr_step g) (called_low g inline) (λ q. tt) (λ r. tt)) (record { method = method; target = target; args = args })) ≡ called_low g inline (record { method = method; target = option_map (low_expr g inline) target; args = map (low_expr g inline) args })
+call_layer : (g : Ground) (inline : Inline) (method : ℕ) (target : Option Expr) (args : List Expr)
+    → called_low g inline (map-Call Expr Call Quant Reach Low LowCall (Unit {0}) (Unit {0}) (low_expr g inline) (low_call g inline)
+    (fold-Quant Low LowCall (Unit {0}) (Unit {0}) (expr_step g) (called_low g inline) (λ q. tt) (λ r. tt))
+    (fold-Reach Low LowCall (Unit {0}) (Unit {0}) (expr_step g) (called_low g inline) (λ q. tt) (λ r. tt)) (record { method = method; target = target; args = args })) ≡ called_low
+    g inline (record { method = method; target = option_map (low_expr g inline) target; args = map (low_expr g inline) args })
 call_layer g inline method None args = refl
 call_layer g inline method (Some t) args = refl
 
-pub is_called : (g : Ground) (inline : Inline) (c : Call) → low_call g inline c ≡ called_low g inline (record { method = (out-Call c).method; target = option_map (low_expr g inline) (out-Call c).target; args = map (low_expr g inline) (out-Call c).args })
-is_called g inline c = rw (fold_out-Call Low LowCall (Unit {0}) (Unit {0}) (expr_step g) (called_low g inline) (λ q. tt) (λ r. tt) c) (call_layer g inline (out-Call c).method (out-Call c).target (out-Call c).args)
+pub is_called : (g : Ground) (inline : Inline) (c : Call)
+    → low_call g inline c ≡ called_low g inline
+    (record { method = (out-Call c).method; target = option_map (low_expr g inline) (out-Call c).target; args = map (low_expr g inline) (out-Call c).args })
+is_called g inline c = rw (fold_out-Call Low LowCall (Unit {0}) (Unit {0}) (expr_step g) (called_low g inline) (λ q. tt) (λ r. tt) c)
+    (call_layer g inline (out-Call c).method (out-Call c).target (out-Call c).args)
 
 pub low_num : (g : Ground) (inline : Inline) (z : ℤ) (k : Kind) (f : Spots) (b : ℕ) → (low_expr g inline (e.Num z)).low k f b ≡ low_step g (Expr-F.Num z) k f b
 low_num g inline z k f b = ap (λ l. l.low k f b) (is_num g inline z)
@@ -102,7 +109,8 @@ low_local g inline i k f b = ap (λ l. l.low k f b) (is_local g inline i)
 pub low_bound : (g : Ground) (inline : Inline) (i : ℕ) (k : Kind) (f : Spots) (b : ℕ) → (low_expr g inline (e.Bound i)).low k f b ≡ low_step g (Expr-F.Bound i) k f b
 low_bound g inline i k f b = ap (λ l. l.low k f b) (is_bound g inline i)
 
-pub low_read : (g : Ground) (inline : Inline) (a : Expr) (i : ℕ) (k : Kind) (f : Spots) (b : ℕ) → (low_expr g inline (e.Read a i)).low k f b ≡ low_step g (Expr-F.Read (low_expr g inline a) i) k f b
+pub low_read : (g : Ground) (inline : Inline) (a : Expr) (i : ℕ) (k : Kind) (f : Spots) (b : ℕ) → (low_expr g inline (e.Read a i)).low k f b ≡ low_step g
+    (Expr-F.Read (low_expr g inline a) i) k f b
 low_read g inline a i k f b = ap (λ l. l.low k f b) (is_read g inline a i)
 
 pub low_neg : (g : Ground) (inline : Inline) (a : Expr) (k : Kind) (f : Spots) (b : ℕ) → (low_expr g inline (e.Neg a)).low k f b ≡ low_step g (Expr-F.Neg (low_expr g inline a)) k f b
@@ -111,7 +119,8 @@ low_neg g inline a k f b = ap (λ l. l.low k f b) (is_neg g inline a)
 pub low_not : (g : Ground) (inline : Inline) (a : Expr) (k : Kind) (f : Spots) (b : ℕ) → (low_expr g inline (e.Not a)).low k f b ≡ low_step g (Expr-F.Not (low_expr g inline a)) k f b
 low_not g inline a k f b = ap (λ l. l.low k f b) (is_not g inline a)
 
-pub low_bin : (g : Ground) (inline : Inline) (o : Op) (a : Expr) (c : Expr) (k : Kind) (f : Spots) (b : ℕ) → (low_expr g inline (e.Bin o a c)).low k f b ≡ low_step g (Expr-F.Bin o (low_expr g inline a) (low_expr g inline c)) k f b
+pub low_bin : (g : Ground) (inline : Inline) (o : Op) (a : Expr) (c : Expr) (k : Kind) (f : Spots) (b : ℕ) → (low_expr g inline (e.Bin o a c)).low k f b ≡ low_step g
+    (Expr-F.Bin o (low_expr g inline a) (low_expr g inline c)) k f b
 low_bin g inline o a c k f b = ap (λ l. l.low k f b) (is_bin g inline o a c)
 
 pub low_quant : (g : Ground) (inline : Inline) (q : Quant) (k : Kind) (f : Spots) (b : ℕ) → (low_expr g inline (e.Quant q)).low k f b ≡ low_step g (Expr-F.Quant tt) k f b
@@ -120,7 +129,8 @@ low_quant g inline q k f b = ap (λ l. l.low k f b) (is_quant g inline q)
 pub low_old : (g : Ground) (inline : Inline) (a : Expr) (k : Kind) (f : Spots) (b : ℕ) → (low_expr g inline (e.Old a)).low k f b ≡ low_step g (Expr-F.Old (low_expr g inline a)) k f b
 low_old g inline a k f b = ap (λ l. l.low k f b) (is_old g inline a)
 
-pub low_has : (g : Ground) (inline : Inline) (r : Reach) (a : Expr) (k : Kind) (f : Spots) (b : ℕ) → (low_expr g inline (e.Has r a)).low k f b ≡ low_step g (Expr-F.Has tt (low_expr g inline a)) k f b
+pub low_has : (g : Ground) (inline : Inline) (r : Reach) (a : Expr) (k : Kind) (f : Spots) (b : ℕ) → (low_expr g inline (e.Has r a)).low k f b ≡ low_step g
+    (Expr-F.Has tt (low_expr g inline a)) k f b
 low_has g inline r a k f b = ap (λ l. l.low k f b) (is_has g inline r a)
 
 pub low_size : (g : Ground) (inline : Inline) (r : Reach) (k : Kind) (f : Spots) (b : ℕ) → (low_expr g inline (e.Size r)).low k f b ≡ low_step g (Expr-F.Size tt) k f b
@@ -132,11 +142,33 @@ low_new g inline c k f b = ap (λ l. l.low k f b) (is_new g inline c)
 pub low_of_call : (g : Ground) (inline : Inline) (c : Call) (k : Kind) (f : Spots) (b : ℕ) → (low_expr g inline (e.Call c)).low k f b ≡ low_step g (Expr-F.Call (low_call g inline c)) k f b
 low_of_call g inline c k f b = ap (λ l. l.low k f b) (is_call g inline c)
 
-pub low_called : (g : Ground) (inline : Inline) (c : Call) (wanted : Bool) (f : Spots) (b : ℕ) → (low_call g inline c).low wanted f b ≡ (called_low g inline (record { method = (out-Call c).method; target = option_map (low_expr g inline) (out-Call c).target; args = map (low_expr g inline) (out-Call c).args })).low wanted f b
+pub low_called : (g : Ground) (inline : Inline) (c : Call) (wanted : Bool) (f : Spots) (b : ℕ)
+    → (low_call g inline c).low wanted f
+    b ≡ (called_low g inline
+    (record { method = (out-Call c).method; target = option_map (low_expr g inline) (out-Call c).target; args = map (low_expr g inline) (out-Call c).args })).low wanted f b
 low_called g inline c wanted f b = ap (λ l. l.low wanted f b) (is_called g inline c)
 
 -- all forms of expressions
-pub ruleset low_forms = (low_num, low_flag, low_null, low_this, low_result, low_local, low_bound, low_read, low_neg, low_not, low_bin, low_quant, low_old, low_has, low_size, low_new, low_of_call, low_called)
+pub ruleset low_forms = (
+  low_num,
+  low_flag,
+  low_null,
+  low_this,
+  low_result,
+  low_local,
+  low_bound,
+  low_read,
+  low_neg,
+  low_not,
+  low_bin,
+  low_quant,
+  low_old,
+  low_has,
+  low_size,
+  low_new,
+  low_of_call,
+  low_called,
+)
 
 -- ## their kinds
 
@@ -170,7 +202,8 @@ kind_neg g inline a f = ap (λ l. l.kind f) (is_neg g inline a)
 pub kind_not : (g : Ground) (inline : Inline) (a : Expr) (f : Spots) → (low_expr g inline (e.Not a)).kind f ≡ kind_step g (Expr-F.Not (low_expr g inline a)) f
 kind_not g inline a f = ap (λ l. l.kind f) (is_not g inline a)
 
-pub kind_bin : (g : Ground) (inline : Inline) (o : Op) (a : Expr) (c : Expr) (f : Spots) → (low_expr g inline (e.Bin o a c)).kind f ≡ kind_step g (Expr-F.Bin o (low_expr g inline a) (low_expr g inline c)) f
+pub kind_bin : (g : Ground) (inline : Inline) (o : Op) (a : Expr) (c : Expr) (f : Spots) → (low_expr g inline (e.Bin o a c)).kind f ≡ kind_step g
+    (Expr-F.Bin o (low_expr g inline a) (low_expr g inline c)) f
 kind_bin g inline o a c f = ap (λ l. l.kind f) (is_bin g inline o a c)
 
 pub kind_quant : (g : Ground) (inline : Inline) (q : Quant) (f : Spots) → (low_expr g inline (e.Quant q)).kind f ≡ kind_step g (Expr-F.Quant tt) f
@@ -191,11 +224,32 @@ kind_new g inline c f = ap (λ l. l.kind f) (is_new g inline c)
 pub kind_of_call : (g : Ground) (inline : Inline) (c : Call) (f : Spots) → (low_expr g inline (e.Call c)).kind f ≡ kind_step g (Expr-F.Call (low_call g inline c)) f
 kind_of_call g inline c f = ap (λ l. l.kind f) (is_call g inline c)
 
-pub kind_called : (g : Ground) (inline : Inline) (c : Call) → (low_call g inline c).kind ≡ (called_low g inline (record { method = (out-Call c).method; target = option_map (low_expr g inline) (out-Call c).target; args = map (low_expr g inline) (out-Call c).args })).kind
+pub kind_called : (g : Ground) (inline : Inline) (c : Call)
+    → (low_call g inline c).kind ≡ (called_low g inline
+    (record { method = (out-Call c).method; target = option_map (low_expr g inline) (out-Call c).target; args = map (low_expr g inline) (out-Call c).args })).kind
 kind_called g inline c = ap (λ l. l.kind) (is_called g inline c)
 
 -- all forms of their kinds
-pub ruleset kind_forms = (kind_num, kind_flag, kind_null, kind_this, kind_result, kind_local, kind_bound, kind_read, kind_neg, kind_not, kind_bin, kind_quant, kind_old, kind_has, kind_size, kind_new, kind_of_call, kind_called)
+pub ruleset kind_forms = (
+  kind_num,
+  kind_flag,
+  kind_null,
+  kind_this,
+  kind_result,
+  kind_local,
+  kind_bound,
+  kind_read,
+  kind_neg,
+  kind_not,
+  kind_bin,
+  kind_quant,
+  kind_old,
+  kind_has,
+  kind_size,
+  kind_new,
+  kind_of_call,
+  kind_called,
+)
 
 -- ## statements
 

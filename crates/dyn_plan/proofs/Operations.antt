@@ -1,11 +1,7 @@
 -- What single actions, operators and tests for null show.
-use Rattle.std.proofs.Common.{◌≡◌, ℕ, ◌+◌, ◌<◌, ◌≤◌, Bool, true, false, not, List, [], ◌∷◌, ◌++◌, Option, Some, None, refl, sym, ◌∙◌, ap, subst, arith}
-use Rattle.std.specs.Prelude.{◌==◌, ◌-◌, ◌^◌, nat_lt, nat_le, if◌then◌else◌, ℤ, pos, negsuc, ◌-ℤ◌, neg_ℤ, int_lt, int_le, length, option_and_then, map}
-use Rattle.std.specs.Option.{option_map_or}
-use Rattle.std.proofs.lemmas.Bool.{false≢true, lt-ltb}
+use Rattle.std.proofs.Common.{◌≡◌, ℕ, ◌+◌, ◌<◌, ◌≤◌, Bool, true, false, not, List, [], ◌∷◌, Option, Some, refl, sym, ◌∙◌, ap, subst, arith}
+use Rattle.std.specs.Prelude.{nat_lt, nat_le, if◌then◌else◌, ℤ, pos, negsuc, neg_ℤ, int_lt, int_le, length, option_and_then}
 use Rattle.std.proofs.lemmas.Bool.Decides.{nat_tests}
-use Rattle.std.proofs.lemmas.Nat.{pow_pos}
-use Rattle.std.proofs.Math.IntN.{+ℤ_idl}
 use Rattle.taco_unit.specs.declared.kind.Kind.{Kind}
 use Rattle.taco_unit.specs.declared.kind.Kind.TheVariants as kind
 use Rattle.taco_unit.specs.declared.expr.Op.{Op}
@@ -15,22 +11,22 @@ use Rattle.heap_core.specs.declared.value.Value.TheVariants.{Null, Obj, Num, Fla
 use Rattle.heap_core.specs.declared.value.Seen.{Seen}
 use Rattle.heap_core.specs.declared.value.Seen.TheVariants.{Is, Bad, Out}
 use Rattle.heap_core.specs.Posed.{Posed}
-use Rattle.heap_core.specs.Outcomes.{in_bits, number, flag, with_value, on_number, on_numbers, on_flag, same, same_flag, opposite, negative, equivalent, operated}
-use Rattle.heap_core.specs.Exec.{Memory, Ends, Gives, Throws, Leaves, Frame, then_with, ends_as, on_object}
+use Rattle.heap_core.specs.Outcomes.{in_bits, number, flag, with_value, on_numbers, same, opposite, negative, equivalent, operated}
+use Rattle.heap_core.specs.Exec.{Memory, Leaves, ends_as}
 use Rattle.dyn_core.specs.declared.prog.Act.{Act}
-use Rattle.dyn_core.specs.declared.prog.Act.TheVariants.{Copy, Const, Sum, Diff, Product, Same, Below}
+use Rattle.dyn_core.specs.declared.prog.Act.TheVariants.{Const, Sum, Diff, Product, Same, Below}
 use Rattle.dyn_core.specs.declared.state.DynState.{DynState}
 use Rattle.dyn_core.specs.States.{var_at, with_var}
 use Rattle.dyn_core.specs.Actions.{with_given, acted}
 use Rattle.dyn_core.proofs.Vars.{var_set, var_apart}
 use Rattle.dyn_plan.specs.declared.plan.Plan.{Plan}
 use Rattle.dyn_plan.specs.declared.plan.Plan.TheVariants as l
-use Rattle.dyn_plan.specs.Plans.{by_flag, next, go}
-use Rattle.dyn_plan.specs.Places.{Ground, Spots, width, flag_of, is_receiver}
-use Rattle.dyn_plan.specs.Guards.{Lowered, throw, null_at, null_test, through}
+use Rattle.dyn_plan.specs.Plans.{go}
+use Rattle.dyn_plan.specs.Places.{Ground, Spots, width, flag_of}
+use Rattle.dyn_plan.specs.Guards.{Lowered, null_at}
 use Rattle.dyn_plan.specs.Expressions.{operation}
-use Rattle.dyn_plan.proofs.PlanForms.{next_do, next_if, next_fail}
-use Rattle.dyn_plan.proofs.Shown.{set, IsKept, kept_set, kept_same, kept_then, Stands, stands_on, moving, Remembers, ThisIs, HasFlags, HasGiven, HasThrown, Shows, shows_from, go_one, go_append}
+use Rattle.dyn_plan.proofs.PlanForms.{next_do, next_fail}
+use Rattle.dyn_plan.proofs.Shown.{set, kept_set, kept_same, kept_then, Stands, stands_on, moving, Remembers, HasGiven, Shows, go_one}
 
 -- ## one action
 
@@ -89,7 +85,8 @@ negative_defined w (Flag b) = tt
 pub go_do : (p : Posed) (n : ℕ) (a : Act) (rest : List Plan) (s : DynState) → go p n (l.Do a ∷ rest) s ≡ option_and_then (go p n rest) (acted p a s)
 go_do p n a rest s = ap (option_and_then (go p n rest)) (next_do p n a s)
 
-given_shows : (t : Bool) (start b x : ℕ) (f : Spots) (m : Memory) (s : DynState) (seen : Seen) → IsDefined seen → b ≤ x → Remembers m s → Shows t start f s (HasGiven b x s) (ends_as m seen) (with_given x s seen)
+given_shows : (t : Bool) (start b x : ℕ) (f : Spots) (m : Memory) (s : DynState) (seen : Seen) → IsDefined seen → b ≤ x → Remembers m s
+    → Shows t start f s (HasGiven b x s) (ends_as m seen) (with_given x s seen)
 given_shows t start b x f m s (Is v) defined above memory = record { memory = memory; value = var_set s.vars x v; kept = kept_set b x v s above }
 given_shows t start b x f m s Bad defined above memory = absurd defined
 given_shows t start b x f m s Out defined above memory = tt
@@ -205,24 +202,34 @@ opposed p n g t start b r f m s a seen is defined low above still memory =
 pub operation_shows : (p : Posed) (n : ℕ) (g : Ground) (t : Bool) (start b r e x y : ℕ) (f : Spots) (m : Memory) (s : DynState) (o : Op)
     → moving g ≤ b → b ≤ r → b ≤ e → (y ≡ e → ⊥) → Stands g s → Remembers m s
     → Shows t start f s (HasGiven b r s) (ends_as m (operated o p.scope.ints (var_at s.vars x) (var_at s.vars y))) (go p n (operation g o r e x y) s)
-operation_shows p n g t start b r e x y f m s op.Add low above spare apart still memory = did p n t start b r f m s (Sum r x y) (operated op.Add p.scope.ints (var_at s.vars x) (var_at s.vars y)) refl (numbers_defined _ (λ z w. number_defined p.scope.ints _) (var_at s.vars x) (var_at s.vars y)) above memory
-operation_shows p n g t start b r e x y f m s op.Sub low above spare apart still memory = did p n t start b r f m s (Diff r x y) (operated op.Sub p.scope.ints (var_at s.vars x) (var_at s.vars y)) refl (numbers_defined _ (λ z w. number_defined p.scope.ints _) (var_at s.vars x) (var_at s.vars y)) above memory
-operation_shows p n g t start b r e x y f m s op.Mul low above spare apart still memory = did p n t start b r f m s (Product r x y) (operated op.Mul p.scope.ints (var_at s.vars x) (var_at s.vars y)) refl (numbers_defined _ (λ z w. number_defined p.scope.ints _) (var_at s.vars x) (var_at s.vars y)) above memory
-operation_shows p n g t start b r e x y f m s op.Eq low above spare apart still memory = did p n t start b r f m s (Same r x y) (same (var_at s.vars x) (var_at s.vars y)) refl (same_defined (var_at s.vars x) (var_at s.vars y)) above memory
-operation_shows p n g t start b r e x y f m s op.Ne low above spare apart still memory = opposed p n g t start b r f m s (Same r x y) (same (var_at s.vars x) (var_at s.vars y)) refl (same_defined (var_at s.vars x) (var_at s.vars y)) low above still memory
-operation_shows p n g t start b r e x y f m s op.Lt low above spare apart still memory = did p n t start b r f m s (Below r x y) (operated op.Lt p.scope.ints (var_at s.vars x) (var_at s.vars y)) refl (numbers_defined _ (λ z w. tt) (var_at s.vars x) (var_at s.vars y)) above memory
+operation_shows p n g t start b r e x y f m s op.Add low above spare apart still memory = did p n t start b r f m s (Sum r x y)
+    (operated op.Add p.scope.ints (var_at s.vars x) (var_at s.vars y)) refl (numbers_defined _ (λ z w. number_defined p.scope.ints _) (var_at s.vars x) (var_at s.vars y)) above memory
+operation_shows p n g t start b r e x y f m s op.Sub low above spare apart still memory = did p n t start b r f m s (Diff r x y)
+    (operated op.Sub p.scope.ints (var_at s.vars x) (var_at s.vars y)) refl (numbers_defined _ (λ z w. number_defined p.scope.ints _) (var_at s.vars x) (var_at s.vars y)) above memory
+operation_shows p n g t start b r e x y f m s op.Mul low above spare apart still memory = did p n t start b r f m s (Product r x y)
+    (operated op.Mul p.scope.ints (var_at s.vars x) (var_at s.vars y)) refl (numbers_defined _ (λ z w. number_defined p.scope.ints _) (var_at s.vars x) (var_at s.vars y)) above memory
+operation_shows p n g t start b r e x y f m s op.Eq low above spare apart still memory = did p n t start b r f m s (Same r x y) (same (var_at s.vars x) (var_at s.vars y)) refl
+    (same_defined (var_at s.vars x) (var_at s.vars y)) above memory
+operation_shows p n g t start b r e x y f m s op.Ne low above spare apart still memory = opposed p n g t start b r f m s (Same r x y) (same (var_at s.vars x) (var_at s.vars y))
+    refl (same_defined (var_at s.vars x) (var_at s.vars y)) low above still memory
+operation_shows p n g t start b r e x y f m s op.Lt low above spare apart still memory = did p n t start b r f m s (Below r x y)
+    (operated op.Lt p.scope.ints (var_at s.vars x) (var_at s.vars y)) refl (numbers_defined _ (λ z w. tt) (var_at s.vars x) (var_at s.vars y)) above memory
 operation_shows p n g t start b r e x y f m s op.Le low above spare apart still memory =
     subst (λ u. Shows t start f s (HasGiven b r s) (ends_as m u) (go p n (operation g op.Le r e x y) s)) (le_is p.scope.ints (var_at s.vars x) (var_at s.vars y))
-    (opposed p n g t start b r f m s (Below r y x) (operated op.Lt p.scope.ints (var_at s.vars y) (var_at s.vars x)) refl (numbers_defined _ (λ z w. tt) (var_at s.vars y) (var_at s.vars x)) low above still memory)
+    (opposed p n g t start b r f m s (Below r y x) (operated op.Lt p.scope.ints (var_at s.vars y) (var_at s.vars x)) refl
+    (numbers_defined _ (λ z w. tt) (var_at s.vars y) (var_at s.vars x)) low above still memory)
 operation_shows p n g t start b r e x y f m s op.Gt low above spare apart still memory =
     subst (λ u. Shows t start f s (HasGiven b r s) (ends_as m u) (go p n (operation g op.Gt r e x y) s)) (gt_is p.scope.ints (var_at s.vars x) (var_at s.vars y))
-    (did p n t start b r f m s (Below r y x) (operated op.Lt p.scope.ints (var_at s.vars y) (var_at s.vars x)) refl (numbers_defined _ (λ z w. tt) (var_at s.vars y) (var_at s.vars x)) above memory)
+    (did p n t start b r f m s (Below r y x) (operated op.Lt p.scope.ints (var_at s.vars y) (var_at s.vars x)) refl
+    (numbers_defined _ (λ z w. tt) (var_at s.vars y) (var_at s.vars x)) above memory)
 operation_shows p n g t start b r e x y f m s op.Ge low above spare apart still memory =
     subst (λ u. Shows t start f s (HasGiven b r s) (ends_as m u) (go p n (operation g op.Ge r e x y) s)) (ge_is p.scope.ints (var_at s.vars x) (var_at s.vars y))
-    (opposed p n g t start b r f m s (Below r x y) (operated op.Lt p.scope.ints (var_at s.vars x) (var_at s.vars y)) refl (numbers_defined _ (λ z w. tt) (var_at s.vars x) (var_at s.vars y)) low above still memory)
+    (opposed p n g t start b r f m s (Below r x y) (operated op.Lt p.scope.ints (var_at s.vars x) (var_at s.vars y)) refl
+    (numbers_defined _ (λ z w. tt) (var_at s.vars x) (var_at s.vars y)) low above still memory)
 operation_shows p n g t start b r e x y f m s op.Iff low above spare apart still memory =
     subst (λ u. Shows t start f s (HasGiven b r s) (ends_as m u) (go p n (operation g op.Iff r e x y) s)) (iff_is (var_at s.vars x) (var_at s.vars y))
-    (did_both p n t start b e r f m s (Same e x (flag_of g true)) (Same r e y) (same (var_at s.vars x) (Flag true)) (λ v. same v (var_at s.vars y)) first second (same_defined (var_at s.vars x) (Flag true)) (λ v. same_defined v (var_at s.vars y)) spare above memory)
+    (did_both p n t start b e r f m s (Same e x (flag_of g true)) (Same r e y) (same (var_at s.vars x) (Flag true)) (λ v. same v (var_at s.vars y)) first second
+    (same_defined (var_at s.vars x) (Flag true)) (λ v. same_defined v (var_at s.vars y)) spare above memory)
   where
     first : acted p (Same e x (flag_of g true)) s ≡ with_given e s (same (var_at s.vars x) (Flag true))
     first = rw (still.flags true) refl
@@ -231,7 +238,8 @@ operation_shows p n g t start b r e x y f m s op.Iff low above spare apart still
     second v = rw (var_set s.vars e v, var_apart s.vars e v y apart) refl
 operation_shows p n g t start b r e x y f m s op.And low above spare apart still memory = subst (Shows t start f s (HasGiven b r s) Leaves) (sym (go_one p n l.Fail s ∙ next_fail p n s)) tt
 operation_shows p n g t start b r e x y f m s op.Or low above spare apart still memory = subst (Shows t start f s (HasGiven b r s) Leaves) (sym (go_one p n l.Fail s ∙ next_fail p n s)) tt
-operation_shows p n g t start b r e x y f m s op.Implies low above spare apart still memory = subst (Shows t start f s (HasGiven b r s) Leaves) (sym (go_one p n l.Fail s ∙ next_fail p n s)) tt
+operation_shows p n g t start b r e x y f m s op.Implies low above spare apart still memory = subst (Shows t start f s (HasGiven b r s) Leaves)
+    (sym (go_one p n l.Fail s ∙ next_fail p n s)) tt
 
 -- ## null
 
@@ -264,7 +272,8 @@ null_there p n g b m s k low still memory = by k
       calm = refl;
     }
 
-    on_class : (c : ℕ) (t : Bool) → nat_lt c (length g.unit.classes) ≡ t → NullThere p n g b m s (if t then record { place = g.first + (2 + c); steps = []; throws = false } else record { place = b; steps = l.Do (Const b Null) ∷ []; throws = false })
+    on_class : (c : ℕ) (t : Bool) → nat_lt c (length g.unit.classes) ≡ t
+        → NullThere p n g b m s (if t then record { place = g.first + (2 + c); steps = []; throws = false } else record { place = b; steps = l.Do (Const b Null) ∷ []; throws = false })
     on_class c true is = found c (grind (arith, nat_tests, is))
     on_class c false is = made
 

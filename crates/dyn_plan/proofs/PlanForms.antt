@@ -10,8 +10,8 @@ use Rattle.dyn_core.specs.States.{var_at}
 use Rattle.dyn_core.specs.Actions.{acted}
 use Rattle.dyn_plan.specs.declared.plan.Plan.{Plan, fold_out-Plan}
 use Rattle.dyn_plan.specs.declared.plan.Plan.TheVariants as l
-use Rattle.dyn_plan.specs.Plans.{Next, in_line, by_flag, while_true, next_step, next, go}
-use Rattle.dyn_plan.specs.Programs.{either, repetition, program_step, program_of_step, program}
+use Rattle.dyn_plan.specs.Plans.{Next, by_flag, while_true, next_step, next, go}
+use Rattle.dyn_plan.specs.Programs.{either, repetition, program_step, program_of_step}
 
 -- ## the following state
 

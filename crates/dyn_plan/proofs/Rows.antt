@@ -20,14 +20,12 @@ use Rattle.heap_core.specs.declared.value.Object.{Object}
 use Rattle.heap_core.specs.declared.start.Start.{Start}
 use Rattle.heap_core.specs.Heap.{Heap}
 use Rattle.heap_core.specs.Posed.{Posed}
-use Rattle.dyn_core.specs.declared.prog.Act.TheVariants.{Copy, Const, Sum, Same, Below, Read, Write, Make}
+use Rattle.dyn_core.specs.declared.prog.Act.TheVariants.{Const}
 use Rattle.dyn_core.specs.declared.state.DynState.{DynState}
 use Rattle.dyn_core.specs.States.{var_at}
 use Rattle.dyn_plan.specs.Plans.{go}
-use Rattle.dyn_plan.specs.declared.plan.Plan.{Plan}
 use Rattle.dyn_plan.specs.declared.plan.Plan.TheVariants as l
 use Rattle.dyn_plan.specs.Places.{Ground, Spots}
-use Rattle.dyn_plan.specs.Guards.{set_done}
 use Rattle.dyn_plan.specs.Statements.{Laid, lay}
 use Rattle.dyn_plan.specs.Frames.{frame_of, in_frame, inlined}
 use Rattle.dyn_plan.specs.Whole.{ground, outer_frame, run_inside, rows_up_to, zeros_but}
@@ -144,7 +142,8 @@ up =
     2
 
 abbrev up_known : Body up
-up_known = k.block (k.then (k.set 1 (k.num (pos 0))) (k.then (k.loop (k.bin op.And (k.local 0) (k.bin op.Lt (k.local 1) (k.num (pos 3)))) (k.step 1 true)) (k.then (k.give (k.local 1)) k.none)))
+up_known = k.block (k.then (k.set 1 (k.num (pos 0))) (k.then (k.loop (k.bin op.And (k.local 0) (k.bin op.Lt (k.local 1) (k.num (pos 3)))) (k.step 1 true))
+    (k.then (k.give (k.local 1)) k.none)))
 
 -- two turns are not enough, three are
 up_two : run up (body_of up) 2 (start [] v.Null (v.Flag true ∷ [])) ≡ None
@@ -176,7 +175,8 @@ get_five = rw get_known.is (simp next_forms refl)
 abbrev late : Posed
 late =
     posed (Int ∷ [])
-    (method_with true (param_of (Ref 0) ∷ []) (Some (Int, false)) [] (s.Return (Some (e.Call (call_on 1 (e.Local 0) (e.Bin op.Add (e.Num (pos 7)) (e.Num (pos 1)) ∷ []))))) ∷ method_with false (param_of Int ∷ []) (Some (Int, false)) [] (s.Return (Some (e.Local 0))) ∷ [])
+    (method_with true (param_of (Ref 0) ∷ []) (Some (Int, false)) [] (s.Return (Some (e.Call (call_on 1 (e.Local 0) (e.Bin op.Add (e.Num (pos 7)) (e.Num (pos 1)) ∷ []))))) ∷
+    method_with false (param_of Int ∷ []) (Some (Int, false)) [] (s.Return (Some (e.Local 0))) ∷ [])
     3
     0
 
@@ -191,7 +191,8 @@ late_null = rw late_known.is (simp next_forms refl)
 abbrev deep : Posed
 deep =
     posed (Int ∷ [])
-    (method_with true (param_of (Ref 0) ∷ []) (Some (Int, false)) [] (s.Return (Some (e.Call (call_on 1 (e.Local 0) (e.Num (pos 5) ∷ []))))) ∷ method_with false (param_of Int ∷ []) (Some (Int, false)) [] (s.Return (Some (e.Local 0))) ∷ [])
+    (method_with true (param_of (Ref 0) ∷ []) (Some (Int, false)) [] (s.Return (Some (e.Call (call_on 1 (e.Local 0) (e.Num (pos 5) ∷ []))))) ∷ method_with false
+    (param_of Int ∷ []) (Some (Int, false)) [] (s.Return (Some (e.Local 0))) ∷ [])
     3
     0
 
@@ -248,7 +249,8 @@ twice_once : run twice (body_of twice) 0 (start [] v.Null []) ≡ gave (num 1) [
 twice_once = rw twice_known.is (rw next_known.is (simp next_forms refl))
 
 -- ## all variables behind the receiver begin anew at the end, but the result and whether the method has thrown
-closing : zeros_but 4 8 2 (Int ∷ Flag ∷ Ref 0 ∷ Int ∷ Flag ∷ Ref 0 ∷ Int ∷ Flag ∷ []) ≡ l.Do (Const 2 (num 0)) ∷ l.Do (Const 3 (v.Flag false)) ∷ l.Do (Const 5 (num 0)) ∷ l.Do (Const 6 (v.Flag false)) ∷ l.Do (Const 7 v.Null) ∷ l.Do (Const 9 (v.Flag false)) ∷ []
+closing : zeros_but 4 8 2 (Int ∷ Flag ∷ Ref 0 ∷ Int ∷ Flag ∷ Ref 0 ∷ Int ∷ Flag ∷ []) ≡ l.Do (Const 2 (num 0)) ∷ l.Do (Const 3 (v.Flag false)) ∷ l.Do (Const 5 (num 0)) ∷ l.Do
+    (Const 6 (v.Flag false)) ∷ l.Do (Const 7 v.Null) ∷ l.Do (Const 9 (v.Flag false)) ∷ []
 closing = refl
 
 -- rows as far as the greatest variable

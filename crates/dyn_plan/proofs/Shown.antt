@@ -1,8 +1,7 @@
 -- What steps show of an evaluation: the relations, and how parts are put together.
 use Rattle.std.proofs.Common.{◌≡◌, ℕ, ◌+◌, ◌<◌, ◌≤◌, Bool, true, false, List, [], ◌∷◌, ◌++◌, Option, Some, None, refl, sym, ◌∙◌, ap, subst, arith}
-use Rattle.std.specs.Prelude.{◌==◌, ◌||◌, pos, map, length, option_and_then}
-use Rattle.std.specs.Option.{option_map_or}
-use Rattle.std.proofs.lemmas.Bool.{false≢true, eqb-true}
+use Rattle.std.specs.Prelude.{pos, map, length, option_and_then}
+use Rattle.std.proofs.lemmas.Bool.{false≢true}
 use Rattle.heap_core.specs.declared.value.Value.{Value}
 use Rattle.heap_core.specs.declared.value.Value.TheVariants.{Null, Obj, Num, Flag}
 use Rattle.heap_core.specs.Posed.{Posed}
@@ -10,11 +9,11 @@ use Rattle.heap_core.specs.Outcomes.{zero_of}
 use Rattle.heap_core.specs.Exec.{Memory, Ends, Gives, Throws, Leaves, Frame, then_with}
 use Rattle.dyn_core.specs.declared.state.DynState.{DynState}
 use Rattle.dyn_core.specs.States.{var_at, with_var}
-use Rattle.dyn_core.proofs.Vars.{var_set, var_apart}
+use Rattle.dyn_core.proofs.Vars.{var_apart}
 use Rattle.dyn_plan.specs.declared.plan.Plan.{Plan}
 use Rattle.dyn_plan.specs.declared.plan.Plan.TheVariants as l
-use Rattle.dyn_plan.specs.Plans.{Next, in_line, by_flag, next, go}
-use Rattle.dyn_plan.specs.Places.{Ground, Spots, width, flag_of, is_receiver}
+use Rattle.dyn_plan.specs.Plans.{Next, by_flag, next, go}
+use Rattle.dyn_plan.specs.Places.{Ground, Spots, width, flag_of}
 use Rattle.dyn_plan.specs.Guards.{guarded}
 use Rattle.dyn_plan.proofs.PlanForms.{next_if}
 
@@ -184,7 +183,8 @@ guard_opens p n f true (x ∷ steps) s open_ =
 
 -- ## putting together
 
-pub weaker : (t u : Bool) (start : ℕ) (f : Spots) (s : DynState) {A : Type 0} (Q : A → Memory → DynState → Type 0) (e : Ends A) (o : Option DynState) → (t ≡ true → u ≡ true) → Shows t start f s Q e o → Shows u start f s Q e o
+pub weaker : (t u : Bool) (start : ℕ) (f : Spots) (s : DynState) {A : Type 0} (Q : A → Memory → DynState → Type 0) (e : Ends A) (o : Option DynState) → (t ≡ true → u ≡ true)
+    → Shows t start f s Q e o → Shows u start f s Q e o
 weaker t u start f s Q (Gives a m) (Some r) more shows = shows
 weaker t u start f s Q (Gives a m) None more shows = absurd shows
 weaker t u start f s Q (Throws m) (Some r) more shows = (more shows.0, shows.1)
@@ -212,7 +212,8 @@ shows_from t start b f r s Q R Leaves None low kept holds shows = tt
 
 -- one part, and then another that is left out where the frame is done; the steps begin at w, and what is shown is shown
 -- from s
-pub then_shows : (p : Posed) (n : ℕ) (t u : Bool) (start : ℕ) (f : Spots) (s w : DynState) {A B : Type 0} (Q : A → Memory → DynState → Type 0) (R : B → Memory → DynState → Type 0) (e : Ends A) (k : A → Memory → Ends B) (first rest : List Plan)
+pub then_shows : (p : Posed) (n : ℕ) (t u : Bool) (start : ℕ) (f : Spots) (s w : DynState) {A B : Type 0} (Q : A → Memory → DynState → Type 0) (R : B → Memory → DynState → Type 0)
+    (e : Ends A) (k : A → Memory → Ends B) (first rest : List Plan)
     → (t ≡ true → Skips p n f rest)
     → (t ≡ true → u ≡ true)
     → Shows t start f s Q e (go p n first w)
@@ -248,10 +249,12 @@ open_on g start b f m l s t flags low open_ memory kept = record {
   still = let far = flags.still in let ordered = flags.ordered in stands_on g b s t (omega arith) kept open_.still;
 }
 
-pub ready_on : (g : Ground) (start b : ℕ) (f : Spots) (fr : Frame) (m l : Memory) (s t : DynState) → IsFrame g start f → f.base ≤ b → IsReady g f fr m s → Remembers l t → IsKept b s t → IsReady g f fr l t
+pub ready_on : (g : Ground) (start b : ℕ) (f : Spots) (fr : Frame) (m l : Memory) (s t : DynState) → IsFrame g start f → f.base ≤ b → IsReady g f fr m s → Remembers l t
+    → IsKept b s t → IsReady g f fr l t
 ready_on g start b f fr m l s t frame low ready memory kept = record {
   opened = open_on g start b f m l s t frame.flags low ready.opened memory kept;
   this = this_on b s t f.this fr.this (λ x is. let below = frame.this_below x is in let ordered = frame.flags.ordered in omega arith) kept ready.this;
-  locals = locals_on b (λ y. (start ≤ y) × (y < f.base) × (y ≡ f.done → ⊥) × (y ≡ f.thrown → ⊥) × (y ≡ f.result → ⊥)) s t f.locals (λ x each. let below = each.1 in omega arith) frame.locals kept ∙ ready.locals;
+  locals = locals_on b (λ y. (start ≤ y) × (y < f.base) × (y ≡ f.done → ⊥) × (y ≡ f.thrown → ⊥) × (y ≡ f.result → ⊥)) s t f.locals (λ x each. let below = each.1 in omega arith)
+      frame.locals kept ∙ ready.locals;
   result = let below = frame.result_below in kept f.result (omega arith) ∙ ready.result;
 }

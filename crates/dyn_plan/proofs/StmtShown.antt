@@ -1,41 +1,29 @@
 -- Statements: the relation of their steps to what they do, how parts are put together, and assignments.
-use Rattle.std.proofs.Common.{◌≡◌, ℕ, zero, suc, ◌+◌, ◌<◌, ◌≤◌, Bool, true, false, not, List, [], ◌∷◌, ◌++◌, Option, Some, None, refl, sym, ◌∙◌, ap, subst, arith}
-use Rattle.std.specs.Prelude.{◌||◌, pos, nat_lt, if◌then◌else◌, option_and_then, option_map, map, length, slice_get, slice_set, is_some}
-use Rattle.std.proofs.lemmas.Bool.{false≢true}
+use Rattle.std.proofs.Common.{◌≡◌, ℕ, zero, suc, ◌<◌, ◌≤◌, Bool, true, false, List, [], ◌∷◌, ◌++◌, Option, Some, None, refl, sym, ◌∙◌, ap, subst, arith}
+use Rattle.std.specs.Prelude.{nat_lt, if◌then◌else◌, option_and_then, map, length, slice_get, slice_set, is_some}
 use Rattle.std.proofs.lemmas.Bool.Decides.{nat_tests}
-use Rattle.std.proofs.lemmas.Option.{slice_get-map}
 use Rattle.taco_unit.specs.declared.kind.Kind.{Kind}
-use Rattle.taco_unit.specs.declared.kind.Kind.TheVariants as kind
-use Rattle.taco_unit.specs.declared.expr.Op.TheVariants as op
-use Rattle.taco_unit.specs.declared.unit.ClassDef.{ClassDef}
 use Rattle.heap_core.specs.declared.value.Value.{Value}
-use Rattle.heap_core.specs.declared.value.Value.TheVariants.{Null, Obj, Num, Flag}
-use Rattle.heap_core.specs.declared.value.Seen.{Seen}
-use Rattle.heap_core.specs.declared.value.Seen.TheVariants.{Is, Bad, Out}
+use Rattle.heap_core.specs.declared.value.Value.TheVariants.{Flag}
 use Rattle.heap_core.specs.Posed.{Posed}
-use Rattle.heap_core.specs.Outcomes.{operated}
-use Rattle.heap_core.specs.Heap.{Heap, put}
-use Rattle.heap_core.specs.Exec.{Memory, Ends, Gives, Throws, Leaves, Exit, Goes, Returns, Raises, Stops, Frame, Code, Body, then_with, ends_as, on_object, gives_in, read, write, with_heap, after, on_branch, after_test, then_do, then_body, in_turn, set_local, stepped, step_field}
+use Rattle.heap_core.specs.Exec.{Memory, Ends, Gives, Throws, Leaves, Exit, Goes, Returns, Raises, Stops, Frame, Code, Body, after, set_local}
 use Rattle.heap_core.proofs.FieldLaws.{none_some, some_same}
-use Rattle.dyn_core.specs.declared.prog.Act.{Act}
-use Rattle.dyn_core.specs.declared.prog.Act.TheVariants.{Copy, Const, Sum, Diff, Read, Write}
+use Rattle.dyn_core.specs.declared.prog.Act.TheVariants.{Copy}
 use Rattle.dyn_core.specs.declared.state.DynState.{DynState}
 use Rattle.dyn_core.specs.States.{var_at, with_var}
-use Rattle.dyn_core.specs.Actions.{with_given, put_through, acted}
 use Rattle.dyn_core.proofs.Vars.{var_set, var_apart}
 use Rattle.dyn_plan.specs.declared.plan.Plan.{Plan}
 use Rattle.dyn_plan.specs.declared.plan.Plan.TheVariants as l
-use Rattle.dyn_plan.specs.Plans.{by_flag, next, go}
-use Rattle.dyn_plan.specs.Places.{Ground, Spots, width, slot, behind, one_number, is_receiver}
-use Rattle.dyn_plan.specs.Guards.{Lowered, guarded, set_done, through}
-use Rattle.dyn_plan.specs.Expressions.{Low, class_of_field, kind_of_field, behind_both}
-use Rattle.dyn_plan.specs.Statements.{Laid, Lay, stops, value_then, with_next, lay_block, set_to, step_by_one, step_local, write_low, step_field_low, if_low}
-use Rattle.dyn_plan.proofs.PlanForms.{next_do, next_if, next_fail}
-use Rattle.dyn_plan.proofs.Shown.{set, IsKept, kept_set, kept_same, kept_then, Stands, stands_on, moving, Remembers, ThisIs, HasFlags, IsFrame, IsOpen, IsReady, Each, Rising, HasGiven, HasThrown, Shows, shows_from, then_shows, this_on, ready_on, go_one, go_append, Skips, skips_none, skips_both, guard_skips, guard_opens}
-use Rattle.dyn_plan.proofs.Operations.{IsDefined, go_do, did, number_defined}
-use Rattle.dyn_plan.proofs.NullTests.{OnObject, through_shows}
-use Rattle.dyn_plan.proofs.ExprShown.{behind_above, or_left, or_right, Claim, given_from}
-use Rattle.dyn_plan.proofs.FormShown.{each_at, field_shows}
+use Rattle.dyn_plan.specs.Plans.{go}
+use Rattle.dyn_plan.specs.Places.{Ground, Spots}
+use Rattle.dyn_plan.specs.Guards.{guarded}
+use Rattle.dyn_plan.specs.Expressions.{Low}
+use Rattle.dyn_plan.specs.Statements.{Lay, set_to}
+use Rattle.dyn_plan.proofs.PlanForms.{next_do, next_fail}
+use Rattle.dyn_plan.proofs.Shown.{set, IsKept, kept_set, stands_on, Remembers, IsFrame, IsReady, Each, Rising}
+use Rattle.dyn_plan.proofs.Shown.{HasGiven, HasThrown, Shows, shows_from, this_on, ready_on, go_one, go_append, Skips, guard_opens}
+use Rattle.dyn_plan.proofs.ExprShown.{Claim}
+use Rattle.dyn_plan.proofs.FormShown.{each_at}
 
 -- ## what is shown
 
@@ -83,17 +71,31 @@ pub record StmtClaim (p : Posed) (n : ℕ) (g : Ground) (lay : Lay) (body : Body
 
 -- ## putting together
 
-pub ended_from : (g : Ground) (t r : Bool) (start : ℕ) (f : Spots) (fr : Frame) (s u : DynState) (e : Exit) (o : Option DynState) → IsKept start s u → Ended g t r start f fr u e o → Ended g t r start f fr s e o
+pub ended_from : (g : Ground) (t r : Bool) (start : ℕ) (f : Spots) (fr : Frame) (s u : DynState) (e : Exit) (o : Option DynState) → IsKept start s u → Ended g t r start f fr u e o
+    → Ended g t r start f fr s e o
 ended_from g t r start f fr s u (Goes locals m) (Some q) kept ended = (ended.0, λ z low. ended.1 z low ∙ kept z low)
 ended_from g t r start f fr s u (Goes locals m) None kept ended = absurd ended
-ended_from g t r start f fr s u (Returns v m) (Some q) kept ended = (ended.0, record { memory = ended.1.memory; done = ended.1.done; thrown = ended.1.thrown; result = ended.1.result; kept = λ z low. ended.1.kept z low ∙ kept z low })
+ended_from g t r start f fr s u (Returns v m)
+    (Some q) kept ended = (
+      ended.0,
+      record {
+        memory = ended.1.memory;
+        done = ended.1.done;
+        thrown = ended.1.thrown;
+        result = ended.1.result;
+        kept = λ z low. ended.1.kept z low
+            ∙ kept z low;
+      },
+    )
 ended_from g t r start f fr s u (Returns v m) None kept ended = absurd ended
-ended_from g t r start f fr s u (Raises m) (Some q) kept ended = (ended.0, record { memory = ended.1.memory; done = ended.1.done; thrown = ended.1.thrown; kept = λ z low. ended.1.kept z low ∙ kept z low })
+ended_from g t r start f fr s u (Raises m)
+    (Some q) kept ended = (ended.0, record { memory = ended.1.memory; done = ended.1.done; thrown = ended.1.thrown; kept = λ z low. ended.1.kept z low ∙ kept z low })
 ended_from g t r start f fr s u (Raises m) None kept ended = absurd ended
 ended_from g t r start f fr s u Stops (Some q) kept ended = absurd ended
 ended_from g t r start f fr s u Stops None kept ended = tt
 
-pub ended_weaker : (g : Ground) (t r u w : Bool) (start : ℕ) (f : Spots) (fr : Frame) (s : DynState) (e : Exit) (o : Option DynState) → (t ≡ true → u ≡ true) → (r ≡ true → w ≡ true) → Ended g t r start f fr s e o → Ended g u w start f fr s e o
+pub ended_weaker : (g : Ground) (t r u w : Bool) (start : ℕ) (f : Spots) (fr : Frame) (s : DynState) (e : Exit) (o : Option DynState) → (t ≡ true → u ≡ true)
+    → (r ≡ true → w ≡ true) → Ended g t r start f fr s e o → Ended g u w start f fr s e o
 ended_weaker g t r u w start f fr s (Goes locals m) (Some q) more again ended = ended
 ended_weaker g t r u w start f fr s (Goes locals m) None more again ended = absurd ended
 ended_weaker g t r u w start f fr s (Returns v m) (Some q) more again ended = (again ended.0, ended.1)
@@ -122,7 +124,8 @@ wanted_stops true = refl
 wanted_stops false = refl
 
 -- an evaluation, and then steps that are left out where the frame is done
-pub after_shows : (p : Posed) (n : ℕ) (g : Ground) (t u r : Bool) (start : ℕ) (f : Spots) (fr : Frame) (s w : DynState) {A : Type 0} (Q : A → Memory → DynState → Type 0) (e : Ends A) (k : A → Memory → Exit) (first rest : List Plan)
+pub after_shows : (p : Posed) (n : ℕ) (g : Ground) (t u r : Bool) (start : ℕ) (f : Spots) (fr : Frame) (s w : DynState) {A : Type 0} (Q : A → Memory → DynState → Type 0)
+    (e : Ends A) (k : A → Memory → Exit) (first rest : List Plan)
     → (t ≡ true → Skips p n f rest) → (t ≡ true → u ≡ true)
     → Shows t start f s Q e (go p n first w)
     → ((a : A) (m : Memory) (q : DynState) → Q a m q → Ended g u r start f fr s (k a m) (go p n rest q))
@@ -139,25 +142,31 @@ after_shows p n g t u r start f fr s w {A} Q e k first rest skips more shows on 
     both Leaves None shows = tt
 
 -- an operand, and then what comes behind it
-pub operand_does : (p : Posed) (n : ℕ) (g : Ground) (low : Low) (c : Code) (before t r : Bool) (start : ℕ) (f : Spots) (k : Kind) (b : ℕ) (s u : DynState) (fr : Frame) (m : Memory) (on : Value → Memory → Exit) (rest : List Plan)
+pub operand_does : (p : Posed) (n : ℕ) (g : Ground) (low : Low) (c : Code) (before t r : Bool) (start : ℕ) (f : Spots) (k : Kind) (b : ℕ) (s u : DynState) (fr : Frame)
+    (m : Memory) (on : Value → Memory → Exit) (rest : List Plan)
     → Claim p n g low c → IsFrame g start f → f.base ≤ b → IsKept start s u → IsReady g f fr m u
     → ((low.low k f b).throws ≡ true → Skips p n f rest) → ((low.low k f b).throws ≡ true → t ≡ true)
-    → ((v : Value) (h : Memory) (q : DynState) → HasGiven b (low.low k f b).place u v h q → IsReady g f fr h q → IsKept start s q → Ended g t r start f fr s (exit_wanted f.wanted (on v h)) (go p n rest q))
+    → ((v : Value) (h : Memory) (q : DynState) → HasGiven b (low.low k f b).place u v h q → IsReady g f fr h q → IsKept start s q
+    → Ended g t r start f fr s (exit_wanted f.wanted (on v h)) (go p n rest q))
     → Ended g t r start f fr s (exit_wanted f.wanted (after (c fr m) on)) (go p n (guarded f before (low.low k f b).steps ++ rest) u)
 operand_does p n g low c before t r start f k b s u fr m on rest claim frame above kept ready skips more further =
     subst (λ z. Ended g t r start f fr s z (go p n (guarded f before (low.low k f b).steps ++ rest) u)) (wanted_after f.wanted (c fr m) on)
-    (after_shows p n g (low.low k f b).throws t r start f fr s u (HasGiven b (low.low k f b).place u) (c fr m) (λ v h. exit_wanted f.wanted (on v h)) (guarded f before (low.low k f b).steps) rest skips more first
-    (λ v h q given. further v h q given (ready_on g start b f fr m h u q frame above ready given.memory given.kept) (λ z below. given.kept z (let ordered = frame.flags.ordered in omega arith) ∙ kept z below)))
+    (after_shows p n g (low.low k f b).throws t r start f fr s u (HasGiven b (low.low k f b).place u) (c fr m) (λ v h. exit_wanted f.wanted (on v h))
+    (guarded f before (low.low k f b).steps) rest skips more first
+    (λ v h q given. further v h q given (ready_on g start b f fr m h u q frame above ready given.memory given.kept)
+    (λ z below. given.kept z (let ordered = frame.flags.ordered in omega arith) ∙ kept z below)))
   where
     first : Shows (low.low k f b).throws start f s (HasGiven b (low.low k f b).place u) (c fr m) (go p n (guarded f before (low.low k f b).steps) u)
     first =
         subst (Shows (low.low k f b).throws start f s (HasGiven b (low.low k f b).place u) (c fr m)) (sym (guard_opens p n f before (low.low k f b).steps u ready.opened.done))
-        (shows_from (low.low k f b).throws start start f s u (HasGiven b (low.low k f b).place u) (HasGiven b (low.low k f b).place u) (c fr m) (go p n (low.low k f b).steps u) (omega arith) kept (λ v h r given. given)
+        (shows_from (low.low k f b).throws start start f s u (HasGiven b (low.low k f b).place u) (HasGiven b (low.low k f b).place u) (c fr m) (go p n (low.low k f b).steps u)
+        (omega arith) kept (λ v h r given. given)
         (claim.shows start f k b u fr m frame above ready))
 
 -- an evaluation that changes nothing below the free rows, after which the statement goes to its end
 pub ended_all : (g : Ground) (t : Bool) (start : ℕ) (f : Spots) (fr : Frame) (s : DynState) {A : Type 0} (Q : A → Memory → DynState → Type 0) (e : Ends A) (o : Option DynState)
-    → ((a : A) (m : Memory) (q : DynState) → Q a m q → IsReady g f fr m q × IsKept start s q) → Shows t start f s Q e o → Ended g t false start f fr s (exit_wanted f.wanted (after e (λ z. Goes fr.locals))) o
+    → ((a : A) (m : Memory) (q : DynState) → Q a m q → IsReady g f fr m q × IsKept start s q) → Shows t start f s Q e o
+    → Ended g t false start f fr s (exit_wanted f.wanted (after e (λ z. Goes fr.locals))) o
 ended_all g t start f fr s {A} Q e o holds shows = subst (λ z. Ended g t false start f fr s z o) (wanted_after f.wanted e (λ z. Goes fr.locals)) (by e o shows)
   where
     by : (e : Ends A) (o : Option DynState) → Shows t start f s Q e o → Ended g t false start f fr s (after e (λ z m. exit_wanted f.wanted (Goes fr.locals m))) o
@@ -193,7 +202,8 @@ in_range h (x ∷ xs) (suc i) = shift i (length (map h xs)) ∙ in_range h xs i
     shift i k = grind (arith, nat_tests)
 
 -- a state that is ready with one local set
-pub local_set : (p : Posed) (n : ℕ) (g : Ground) (start : ℕ) (f : Spots) (fr : Frame) (m : Memory) (s : DynState) (i y : ℕ) (v : Value) → IsFrame g start f → IsReady g f fr m s → slice_get f.locals i ≡ Some y
+pub local_set : (p : Posed) (n : ℕ) (g : Ground) (start : ℕ) (f : Spots) (fr : Frame) (m : Memory) (s : DynState) (i y : ℕ) (v : Value) → IsFrame g start f → IsReady g f fr m s
+    → slice_get f.locals i ≡ Some y
     → IsReady g f (with_locals fr (slice_set fr.locals i v)) m (set y v s) × IsKept start s (set y v s)
 local_set p n g start f fr m s i y v frame ready at =
     let here = each_at (λ y. (start ≤ y) × (y < f.base) × (y ≡ f.done → ⊥) × (y ≡ f.thrown → ⊥) × (y ≡ f.result → ⊥)) f.locals i y frame.locals at in
@@ -213,17 +223,25 @@ local_set p n g start f fr m s i y v frame ready at =
     )
 
 -- a local is set, where it is there
-pub set_local_is : (h : ℕ → Value) (xs : List ℕ) (fr : Frame) (i : ℕ) (v : Value) (m : Memory) (t : Bool) → map h xs ≡ fr.locals → is_some (slice_get xs i) ≡ t → set_local fr i v m ≡ (if t then Goes (slice_set fr.locals i v) m else Stops)
+pub set_local_is : (h : ℕ → Value) (xs : List ℕ) (fr : Frame) (i : ℕ) (v : Value) (m : Memory) (t : Bool) → map h xs ≡ fr.locals → is_some (slice_get xs i) ≡ t
+    → set_local fr i v m ≡ (if t then Goes (slice_set fr.locals i v) m else Stops)
 set_local_is h xs fr i v m t same is = ap (λ b. if b then Goes (slice_set fr.locals i v) m else Stops) (ap (λ vs. nat_lt i (length vs)) (sym same) ∙ in_range h xs i ∙ is)
 
-pub set_shows : (p : Posed) (n : ℕ) (g : Ground) (t : Bool) (start : ℕ) (f : Spots) (fr : Frame) (m : Memory) (s u : DynState) (i x : ℕ) (v : Value) → IsFrame g start f → IsReady g f fr m u → IsKept start s u → var_at u.vars x ≡ v
+pub set_shows : (p : Posed) (n : ℕ) (g : Ground) (t : Bool) (start : ℕ) (f : Spots) (fr : Frame) (m : Memory) (s u : DynState) (i x : ℕ) (v : Value) → IsFrame g start f
+    → IsReady g f fr m u → IsKept start s u → var_at u.vars x ≡ v
     → Ended g t false start f fr s (exit_wanted f.wanted (set_local fr i v m)) (go p n (set_to (slice_get f.locals i) x) u)
 set_shows p n g t start f fr m s u i x v frame ready kept value = by (slice_get f.locals i) refl
   where
     by : (o : Option ℕ) → slice_get f.locals i ≡ o → Ended g t false start f fr s (exit_wanted f.wanted (set_local fr i v m)) (go p n (set_to o x) u)
     by (Some y) at =
         let both = local_set p n g start f fr m u i y v frame ready at in
-        rw (set_local_is (var_at u.vars) f.locals fr i v m true ready.locals (ap is_some at), wanted_goes f.wanted (slice_set fr.locals i v) m, go_one p n (l.Do (Copy y x)) u, next_do p n (Copy y x) u, value)
+        rw (
+          set_local_is (var_at u.vars) f.locals fr i v m true ready.locals (ap is_some at),
+          wanted_goes f.wanted (slice_set fr.locals i v) m,
+          go_one p n (l.Do (Copy y x)) u,
+          next_do p n (Copy y x) u,
+          value,
+        )
         (both.0, λ z low. both.1 z low ∙ kept z low)
     by None at =
         rw (set_local_is (var_at u.vars) f.locals fr i v m false ready.locals (ap is_some at), wanted_stops f.wanted)

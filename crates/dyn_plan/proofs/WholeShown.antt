@@ -2,46 +2,42 @@
 use Rattle.std.proofs.Common.{◌≡◌, ℕ, zero, suc, ◌+◌, ◌<◌, ◌≤◌, Bool, true, false, List, [], ◌∷◌, ◌++◌, length, Option, Some, None, refl, sym, ◌∙◌, ap, subst, arith}
 use Rattle.std.specs.Prelude.{◌-◌, ◌^◌, ◌==◌, ◌||◌, nat_lt, pos, if◌then◌else◌, option_and_then, map, slice_get, Contains}
 use Rattle.std.specs.List.{range_with_len}
-use Rattle.std.specs.Option.{option_to_list}
-use Rattle.std.proofs.lemmas.Bool.{false≢true, lt-ltb, eqb-true, eq-eqb}
+use Rattle.std.proofs.lemmas.Bool.{false≢true, lt-ltb, eq-eqb}
 use Rattle.std.proofs.Math.Pow.{pow_mono}
 use Rattle.taco_unit.specs.declared.kind.Kind.{Kind}
 use Rattle.taco_unit.specs.declared.kind.Kind.TheVariants.{Int, Flag, Ref}
 use Rattle.taco_unit.specs.declared.unit.MethodDef.{MethodDef}
 use Rattle.heap_core.specs.declared.value.Value.{Value}
 use Rattle.heap_core.specs.declared.value.Value.TheVariants as v
-use Rattle.heap_core.specs.declared.value.Seen.{Seen}
 use Rattle.heap_core.specs.declared.value.Seen.TheVariants.{Is, Out}
 use Rattle.heap_core.specs.declared.start.Start.{Start}
 use Rattle.heap_core.specs.Posed.{Posed}
-use Rattle.heap_core.specs.Outcomes.{zero_of, number}
+use Rattle.heap_core.specs.Outcomes.{zero_of}
 use Rattle.heap_core.specs.Start.{method_of}
 use Rattle.heap_core.specs.Exec.{Memory, memory_of, Ends, Gives, Throws, Leaves, run_body, calls}
 use Rattle.heap_core.specs.Judge.{run_of}
 use Rattle.heap_core.proofs.FieldLaws.{none_some, some_same}
 use Rattle.dyn_core.specs.declared.prog.Act.TheVariants.{Copy, Const}
 use Rattle.dyn_core.specs.declared.state.DynState.{DynState}
-use Rattle.dyn_core.specs.States.{var_at, with_var}
+use Rattle.dyn_core.specs.States.{var_at}
 use Rattle.dyn_core.specs.Actions.{with_given, constant}
-use Rattle.dyn_core.specs.Runs.{RunUpTo}
 use Rattle.dyn_core.proofs.Vars.{var_set, var_apart}
 use Rattle.dyn_core.proofs.Members.{contains_option}
 use Rattle.dyn_plan.specs.declared.plan.Plan.{Plan}
 use Rattle.dyn_plan.specs.declared.plan.Plan.TheVariants as l
 use Rattle.dyn_plan.specs.Plans.{go}
-use Rattle.dyn_plan.specs.Programs.{program}
-use Rattle.dyn_plan.specs.Places.{Ground, Spots, width, slot, flag_of}
+use Rattle.dyn_plan.specs.Places.{Ground, Spots, width, flag_of}
 use Rattle.dyn_plan.specs.Guards.{Lowered}
 use Rattle.dyn_plan.specs.Frames.{result_of, inline_body, inlined}
-use Rattle.dyn_plan.specs.Whole.{Whole, ground, receiver_in, frame_row, outer_frame, row_kinds, rows_up_to, greatest, zeros, ones, zeros_but, opening, run_inside, closed, whole}
-use Rattle.dyn_plan.specs.Follows.{with_loops, HasReceiver, Suits, StartsIn, HasResult, EndsAs, IsIn, FollowsAt}
+use Rattle.dyn_plan.specs.Whole.{Whole, ground, receiver_in, outer_frame, row_kinds, rows_up_to, greatest, zeros, ones, zeros_but, opening, run_inside, whole}
+use Rattle.dyn_plan.specs.Follows.{with_loops, HasReceiver, Suits, StartsIn, EndsAs, IsIn}
 use Rattle.dyn_plan.specs.Laws.{PlansDoAsCode}
 use Rattle.dyn_plan.proofs.Bridge.{plans_run_as_programs}
-use Rattle.dyn_plan.proofs.Shown.{set, IsKept, kept_set, kept_same, kept_then, Stands, stands_on, moving, Remembers, ThisIs, HasFlags, IsOpen, Each, HasGiven, HasThrown, Shows, go_one, go_append}
+use Rattle.dyn_plan.proofs.Shown.{set, IsKept, kept_set, kept_same, kept_then, moving, Remembers, ThisIs, HasFlags, IsOpen, Each, Shows, go_append}
 use Rattle.dyn_plan.proofs.Operations.{go_do}
 use Rattle.dyn_plan.proofs.ExprShown.{slot_below}
 use Rattle.dyn_plan.proofs.CallShown.{InlineResult}
-use Rattle.dyn_plan.proofs.FrameRows.{constant_zero, go_zero, go_flag}
+use Rattle.dyn_plan.proofs.FrameRows.{go_zero, go_flag}
 use Rattle.dyn_plan.proofs.FrameShown.{body_shows, inlines}
 
 -- ## what stands still
@@ -67,7 +63,8 @@ zeroed p n x (k ∷ ks) s =
       values = values_of rest.state next refl rest.kept rest.values;
     }
   where
-    values_of : (u next : DynState) → next ≡ set x (zero_of k) s → IsKept (x + 1) next u → ((i : ℕ) (k : Kind) → slice_get ks i ≡ Some k → var_at u.vars (x + 1 + i) ≡ zero_of k) → (i : ℕ) (j : Kind) → slice_get (k ∷ ks) i ≡ Some j → var_at u.vars (x + i) ≡ zero_of j
+    values_of : (u next : DynState) → next ≡ set x (zero_of k) s → IsKept (x + 1) next u → ((i : ℕ) (k : Kind) → slice_get ks i ≡ Some k → var_at u.vars (x + 1 + i) ≡ zero_of k)
+        → (i : ℕ) (j : Kind) → slice_get (k ∷ ks) i ≡ Some j → var_at u.vars (x + i) ≡ zero_of j
     values_of u next is kept later zero j at =
         let here : x + 0 ≡ x = omega arith in
         ap (var_at u.vars) here ∙ kept x (omega arith) ∙ ap (λ (q : DynState). var_at q.vars x) is ∙ var_set s.vars x (zero_of k) ∙ ap zero_of (some_same at)
@@ -124,7 +121,8 @@ opened p n g f m s wide flags memory =
       leads =
           go_append p n (zeros x (row_kinds g)) (ones y (row_kinds g) ++ ending) s
           ∙ ap (option_and_then (go p n (ones y (row_kinds g) ++ ending))) first.leads
-          ∙ ap (λ (rest : List Plan). go p n (l.Do (Const y (v.Num (pos 1))) ∷ l.Do (Const (y + 1) (v.Flag true)) ∷ (rest ++ ending)) first.state) (no_ones (y + 1 + 1) (range_with_len 0 (length g.unit.classes)))
+          ∙ ap (λ (rest : List Plan). go p n (l.Do (Const y (v.Num (pos 1))) ∷ l.Do (Const (y + 1) (v.Flag true)) ∷ (rest ++ ending)) first.state)
+          (no_ones (y + 1 + 1) (range_with_len 0 (length g.unit.classes)))
           ∙ go_do p n (Const y (v.Num (pos 1))) (l.Do (Const (y + 1) (v.Flag true)) ∷ ending) first.state
           ∙ ap (λ z. option_and_then (go p n (l.Do (Const (y + 1) (v.Flag true)) ∷ ending)) (with_given y first.state z)) (one_fits p.scope.ints wide)
           ∙ go_flag p n (y + 1) true ending one
@@ -150,7 +148,9 @@ opened p n g f m s wide flags memory =
     at_start : (q : DynState) → ((i : ℕ) (k : Kind) → slice_get (row_kinds g) i ≡ Some k → var_at q.vars (g.first + i) ≡ zero_of k) → var_at q.vars g.first ≡ v.Num (pos 0)
     at_start q values = let here : g.first ≡ g.first + 0 = omega arith in ap (var_at q.vars) here ∙ values 0 Int refl
 
-    flags_are : (last first one two : DynState) → IsKept (g.first + width g) first last → ((i : ℕ) (k : Kind) → slice_get (row_kinds g) i ≡ Some k → var_at first.vars (g.first + i) ≡ zero_of k) → IsKept (moving g) two last → var_at two.vars (g.first + width g + 1) ≡ v.Flag true → (b : Bool) → var_at last.vars (flag_of g b) ≡ v.Flag b
+    flags_are : (last first one two : DynState) → IsKept (g.first + width g) first last
+        → ((i : ℕ) (k : Kind) → slice_get (row_kinds g) i ≡ Some k → var_at first.vars (g.first + i) ≡ zero_of k) → IsKept (moving g) two last
+        → var_at two.vars (g.first + width g + 1) ≡ v.Flag true → (b : Bool) → var_at last.vars (flag_of g b) ≡ v.Flag b
     flags_are last first one two kept values later set_there false = kept (g.first + 1) (omega arith) ∙ values 1 Flag refl
     flags_are last first one two kept values later set_there true = later (g.first + width g + 1) (omega arith) ∙ set_there
 
@@ -172,7 +172,8 @@ closing p n y z x (k ∷ ks) s = by (x == y) (x == z) refl refl (λ s. closing p
       where
         from : ((q : DynState) → go p n (zeros_but y z x (k ∷ ks)) q ≡ go p n (zeros_but y z (x + 1) ks) q) → Closed p n y z (x + 1) ks s → Closed p n y z x (k ∷ ks) s
         from same rest = record { state = rest.state; leads = same s ∙ rest.leads; memory = rest.memory; first = rest.first; second = rest.second }
-    by false true one two later = from (λ q. ap (λ (w : Bool). go p n ((if w || x == z then [] else l.Do (Const x (zero_of k)) ∷ []) ++ zeros_but y z (x + 1) ks) q) one ∙ ap (λ (w : Bool). go p n ((if w then [] else l.Do (Const x (zero_of k)) ∷ []) ++ zeros_but y z (x + 1) ks) q) two) (later s)
+    by false true one two later = from (λ q. ap (λ (w : Bool). go p n ((if w || x == z then [] else l.Do (Const x (zero_of k)) ∷ []) ++ zeros_but y z (x + 1) ks) q) one
+        ∙ ap (λ (w : Bool). go p n ((if w then [] else l.Do (Const x (zero_of k)) ∷ []) ++ zeros_but y z (x + 1) ks) q) two) (later s)
       where
         from : ((q : DynState) → go p n (zeros_but y z x (k ∷ ks)) q ≡ go p n (zeros_but y z (x + 1) ks) q) → Closed p n y z (x + 1) ks s → Closed p n y z x (k ∷ ks) s
         from same rest = record { state = rest.state; leads = same s ∙ rest.leads; memory = rest.memory; first = rest.first; second = rest.second }
@@ -202,17 +203,27 @@ Told w Leaves (Some u) = ⊥
 Told w Leaves None = Unit {0}
 
 outer_flags : (g : Ground) (d : MethodDef) → HasFlags g (moving g) (outer_frame g d)
-outer_flags g d = record { still = omega arith; done_above = omega arith; done_below = omega arith; thrown_above = omega arith; thrown_below = omega arith; apart = λ same. omega arith; ordered = omega arith }
+outer_flags g d = record {
+  still = omega arith;
+  done_above = omega arith;
+  done_below = omega arith;
+  thrown_above = omega arith;
+  thrown_below = omega arith;
+  apart = λ same. omega arith;
+  ordered = omega arith;
+}
 
 -- what the method is followed by
 abbrev rest_of : Ground → MethodDef → Lowered → List Kind → List Plan
 rest_of g d x rows = (x.steps ++ (l.Do (Copy (outer_frame g d).result x.place) ∷ [])) ++ zeros_but (outer_frame g d).result (outer_frame g d).thrown g.first rows
 
 -- the method's result is copied, and all else begins anew
-finished : (p : Posed) (n : ℕ) (g : Ground) (d : MethodDef) (t : Bool) (x : Lowered) (rows : List Kind) (w : Whole) (m : Memory) (r : DynState) (e : Ends (Option Value)) (o : Option DynState)
+finished : (p : Posed) (n : ℕ) (g : Ground) (d : MethodDef) (t : Bool) (x : Lowered) (rows : List Kind) (w : Whole) (m : Memory) (r : DynState) (e : Ends (Option Value))
+    (o : Option DynState)
     → w.result ≡ (outer_frame g d).result → w.thrown ≡ (outer_frame g d).thrown → IsOpen g (outer_frame g d) m r
     → Shows t (moving g) (outer_frame g d) r (InlineResult false (outer_frame g d).base x.place r) e o
-    → Told w e (option_and_then (go p n (zeros_but (outer_frame g d).result (outer_frame g d).thrown g.first rows)) (option_and_then (go p n (l.Do (Copy (outer_frame g d).result x.place) ∷ [])) o))
+    → Told w e (option_and_then (go p n (zeros_but (outer_frame g d).result (outer_frame g d).thrown g.first rows))
+    (option_and_then (go p n (l.Do (Copy (outer_frame g d).result x.place) ∷ [])) o))
 finished p n g d t x rows w m r e o result_is thrown_is begun = by e o
   where
     f : Spots
@@ -230,13 +241,15 @@ finished p n g d t x rows w m r e o result_is thrown_is begun = by e o
     last : (u : DynState) → Closed p n y z g.first rows (set y (var_at u.vars x.place) u)
     last u = closing p n y z g.first rows (set y (var_at u.vars x.place) u)
 
-    leads : (u : DynState) → option_and_then (go p n (zeros_but (outer_frame g d).result (outer_frame g d).thrown g.first rows)) (go p n (l.Do (Copy (outer_frame g d).result x.place) ∷ []) u) ≡ Some (last u).state
+    leads : (u : DynState) → option_and_then (go p n (zeros_but (outer_frame g d).result (outer_frame g d).thrown g.first rows))
+        (go p n (l.Do (Copy (outer_frame g d).result x.place) ∷ []) u) ≡ Some (last u).state
     leads u = ap (option_and_then (go p n (zeros_but y z g.first rows))) (go_do p n (Copy y x.place) [] u) ∙ (last u).leads
 
     flag_at : (u : DynState) (c : Bool) → var_at u.vars z ≡ v.Flag c → var_at (last u).state.vars w.thrown ≡ v.Flag c
     flag_at u c is = ap (var_at (last u).state.vars) thrown_is ∙ (last u).second ∙ var_apart u.vars y (var_at u.vars x.place) z apart ∙ is
 
-    by : (e : Ends (Option Value)) (o : Option DynState) → Shows t (moving g) f r (InlineResult false f.base x.place r) e o → Told w e (option_and_then (go p n (zeros_but y z g.first rows)) (option_and_then (go p n (l.Do (Copy y x.place) ∷ [])) o))
+    by : (e : Ends (Option Value)) (o : Option DynState) → Shows t (moving g) f r (InlineResult false f.base x.place r) e o
+        → Told w e (option_and_then (go p n (zeros_but y z g.first rows)) (option_and_then (go p n (l.Do (Copy y x.place) ∷ [])) o))
     by (Gives (Some a) h) (Some u) has = subst (Told w (Gives (Some a) h)) (sym (leads u)) (
       (last u).memory ∙ has.memory,
       flag_at u false (has.kept z (omega arith) ∙ begun.thrown),
@@ -256,13 +269,18 @@ each_below : (a n b : ℕ) → a + n ≤ b → Each (λ x. x < b) (range_with_le
 each_below a zero b low = tt
 each_below a (suc n) b low = (omega arith, each_below (a + 1) n b (omega arith))
 
-arguments_are : (a : ℕ) (s t : DynState) (vs : List Value) (n : ℕ) → length vs ≡ n → ((i : ℕ) (u : Value) → slice_get vs i ≡ Some u → var_at t.vars (a + i) ≡ u) → map (var_at t.vars) (range_with_len a n) ≡ vs
+arguments_are : (a : ℕ) (s t : DynState) (vs : List Value) (n : ℕ) → length vs ≡ n → ((i : ℕ) (u : Value) → slice_get vs i ≡ Some u → var_at t.vars (a + i) ≡ u)
+    → map (var_at t.vars) (range_with_len a n) ≡ vs
 arguments_are a s t [] zero long at = refl
 arguments_are a s t [] (suc n) long at = absurd (omega arith)
 arguments_are a s t (u ∷ us) zero long at = absurd (omega arith)
 arguments_are a s t (u ∷ us) (suc n) long at =
     let here : a ≡ a + 0 = omega arith in
-    rw (ap (var_at t.vars) here ∙ at 0 u refl, arguments_are (a + 1) s t us n (omega arith) (λ i w is. let there : a + 1 + i ≡ a + suc i = omega arith in ap (var_at t.vars) there ∙ at (suc i) w is)) refl
+    rw (
+      ap (var_at t.vars) here ∙ at 0 u refl,
+      arguments_are (a + 1) s t us n (omega arith) (λ i w is. let there : a + 1 + i ≡ a + suc i = omega arith in ap (var_at t.vars) there
+          ∙ at (suc i) w is),
+    ) refl
 
 receiver_is : (fixed : Bool) (x : ℕ) (this : Value) (t : DynState) → HasReceiver fixed this → (fixed ≡ false → var_at t.vars x ≡ this) → ThisIs (receiver_in fixed x) this t
 receiver_is true x this t has at = has
@@ -297,7 +315,8 @@ told p turnless d s t wide is none suits starts =
     (subst (Told w (run_body p (calls p p.scope.calls) (Some d) s.this s.args (memory_of s.objects)))
     (sym (go_append p n (opening g f ++ (x.steps ++ copy)) close t
     ∙ ap (option_and_then (go p n close)) (go_append p n (opening g f) (x.steps ++ copy) t ∙ ap (option_and_then (go p n (x.steps ++ copy))) open_.leads ∙ go_append p n x.steps copy r)))
-    (finished p n g d x.throws x rows w (memory_of s.objects) r (run_body p (calls p p.scope.calls) (Some d) s.this s.args (memory_of s.objects)) (go p n x.steps r) refl refl open_.begun shown))
+    (finished p n g d x.throws x rows w (memory_of s.objects) r (run_body p (calls p p.scope.calls) (Some d) s.this s.args (memory_of s.objects)) (go p n x.steps r) refl refl
+    open_.begun shown))
   where
     within : (vs : List Value) (i : ℕ) (u : Value) → slice_get vs i ≡ Some u → i < length vs
     within [] i u at = absurd (none_some at)

@@ -1,5 +1,5 @@
 -- Expressions of code, lowered. (This project's own.)
-use Rattle.std.specs.Prelude.{ℕ, ◌+◌, nat_lt, Bool, true, false, not, ◌||◌, if◌then◌else◌, List, [], ◌∷◌, ◌++◌, length, slice_get, Option, Some, None, option_map}
+use Rattle.std.specs.Prelude.{ℕ, ◌+◌, Bool, true, false, not, ◌||◌, List, [], ◌∷◌, ◌++◌, slice_get, Option, Some, None}
 use Rattle.std.specs.Option.{option_map_or}
 use Rattle.taco_unit.specs.declared.kind.Kind.{Kind}
 use Rattle.taco_unit.specs.declared.kind.Kind.TheVariants.{Int, Flag, Ref}
@@ -8,15 +8,13 @@ use Rattle.taco_unit.specs.declared.expr.Op.TheVariants as op
 use Rattle.taco_unit.specs.declared.expr.Expr.{Expr, fold-Expr}
 use Rattle.taco_unit.specs.declared.expr.Call.{Call, fold-Call}
 use Rattle.taco_unit.specs.declared.expr.Expr.TheOpen.{Expr-F, Call-F}
-use Rattle.taco_unit.specs.declared.unit.FieldDef.{FieldDef}
-use Rattle.taco_unit.specs.declared.unit.MethodDef.{MethodDef}
 use Rattle.taco_unit.specs.Well.{param_kinds, result_kind}
 use Rattle.heap_core.specs.declared.value.Value.TheVariants as v
 use Rattle.dyn_core.specs.declared.prog.Act.{Act}
 use Rattle.dyn_core.specs.declared.prog.Act.TheVariants.{Copy, Const, Sum, Diff, Product, Same, Below, Read, Make}
 use Rattle.dyn_plan.specs.declared.plan.Plan.{Plan}
 use Rattle.dyn_plan.specs.declared.plan.Plan.TheVariants as l
-use Rattle.dyn_plan.specs.Places.{Ground, Spots, width, slot, behind, zero_number, flag_of, is_receiver, first_kind, later_kinds}
+use Rattle.dyn_plan.specs.Places.{Ground, Spots, slot, behind, zero_number, flag_of, is_receiver, first_kind, later_kinds}
 use Rattle.dyn_plan.specs.Guards.{Lowered, guarded, nowhere, at_once, in_place, null_at, through}
 
 -- an expression: its kind in a frame, where it has one; and how it is lowered where this kind is wanted, in a

@@ -1,12 +1,11 @@
 -- When a program follows a method: its runs are the executions that end within the scope. (This project's own.)
-use Rattle.std.specs.Prelude.{◌≡◌, ℕ, ◌≤◌, Bool, true, false, List, length, slice_get, Option, Some, None}
+use Rattle.std.specs.Prelude.{◌≡◌, ℕ, Bool, true, false, length, slice_get, Option, Some, None}
 use Rattle.taco_unit.specs.declared.unit.MethodDef.{MethodDef}
-use Rattle.taco_unit.specs.declared.scope.Scope.{Scope}
 use Rattle.heap_core.specs.declared.value.Value.{Value}
 use Rattle.heap_core.specs.declared.value.Value.TheVariants.{Null, Obj, Flag}
 use Rattle.heap_core.specs.declared.start.Start.{Start}
 use Rattle.heap_core.specs.Posed.{Posed}
-use Rattle.heap_core.specs.Exec.{Memory, Ends, Gives, Throws, Leaves}
+use Rattle.heap_core.specs.Exec.{Ends, Gives, Throws, Leaves}
 use Rattle.heap_core.specs.Judge.{run_of}
 use Rattle.dyn_core.specs.declared.prog.Prog.{Prog}
 use Rattle.dyn_core.specs.declared.state.DynState.{DynState}

@@ -1,13 +1,13 @@
 -- The parts of which lowered code is made: guards, throws, tests for null. (This project's own.)
-use Rattle.std.specs.Prelude.{ℕ, ◌+◌, nat_lt, Bool, true, false, not, if◌then◌else◌, List, [], ◌∷◌, ◌++◌, length, Option, Some, None}
+use Rattle.std.specs.Prelude.{ℕ, ◌+◌, nat_lt, Bool, true, false, if◌then◌else◌, List, [], ◌∷◌, ◌++◌, length}
 use Rattle.taco_unit.specs.declared.kind.Kind.{Kind}
-use Rattle.taco_unit.specs.declared.kind.Kind.TheVariants.{Int, Flag, Ref}
+use Rattle.taco_unit.specs.declared.kind.Kind.TheVariants.{Ref}
 use Rattle.heap_core.specs.declared.value.Value.TheVariants as v
 use Rattle.dyn_core.specs.declared.prog.Act.{Act}
-use Rattle.dyn_core.specs.declared.prog.Act.TheVariants.{Copy, Const, Same}
+use Rattle.dyn_core.specs.declared.prog.Act.TheVariants.{Const, Same}
 use Rattle.dyn_plan.specs.declared.plan.Plan.{Plan}
 use Rattle.dyn_plan.specs.declared.plan.Plan.TheVariants as l
-use Rattle.dyn_plan.specs.Places.{Ground, Spots, width, slot, is_receiver}
+use Rattle.dyn_plan.specs.Places.{Ground, Spots, is_receiver}
 
 -- a lowered expression: the variable where its value stands in the end, and whether it can throw
 pub record Lowered : Type 0 where

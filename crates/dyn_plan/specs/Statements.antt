@@ -1,7 +1,5 @@
 -- Statements, lowered. (This project's own.)
-use Rattle.std.specs.Prelude.{ℕ, ◌+◌, Bool, true, false, not, ◌||◌, ◌&&◌, if◌then◌else◌, List, [], ◌∷◌, ◌++◌, map, slice_get, Option, Some, None, option_map}
-use Rattle.std.specs.Option.{option_map_or}
-use Rattle.taco_unit.specs.declared.kind.Kind.{Kind}
+use Rattle.std.specs.Prelude.{ℕ, ◌+◌, Bool, true, false, not, ◌||◌, if◌then◌else◌, List, [], ◌∷◌, ◌++◌, map, slice_get, Option, Some, None}
 use Rattle.taco_unit.specs.declared.kind.Kind.TheVariants.{Int, Flag, Ref}
 use Rattle.taco_unit.specs.declared.stmt.Stmt.{Stmt, fold-Stmt}
 use Rattle.taco_unit.specs.declared.stmt.Stmt.TheOpen.{Stmt-F}
@@ -10,7 +8,7 @@ use Rattle.dyn_core.specs.declared.prog.Act.{Act}
 use Rattle.dyn_core.specs.declared.prog.Act.TheVariants.{Copy, Const, Sum, Diff, Read, Write}
 use Rattle.dyn_plan.specs.declared.plan.Plan.{Plan}
 use Rattle.dyn_plan.specs.declared.plan.Plan.TheVariants as l
-use Rattle.dyn_plan.specs.Places.{Ground, Spots, behind, one_number, flag_of, is_receiver}
+use Rattle.dyn_plan.specs.Places.{Ground, Spots, behind, one_number, is_receiver}
 use Rattle.dyn_plan.specs.Guards.{Lowered, guarded, set_done, through}
 use Rattle.dyn_plan.specs.Expressions.{Inline, kind_or, class_of_field, kind_of_field, low_expr, low_call, behind_both}
 
@@ -58,7 +56,8 @@ step_local g up None = l.Fail ∷ []
 -- a field of the object at x is set to the value at y
 abbrev pub write_low : Ground → ℕ → Spots → Lowered → Lowered → Laid
 write_low g i f x y = record {
-  steps = x.steps ++ (guarded f x.throws y.steps ++ guarded f (x.throws || y.throws) (through g f (behind_both g f.base x y) (class_of_field g i) x.place (l.Do (Write x.place i y.place) ∷ [])));
+  steps = x.steps ++ (guarded f x.throws y.steps ++ guarded f (x.throws || y.throws)
+      (through g f (behind_both g f.base x y) (class_of_field g i) x.place (l.Do (Write x.place i y.place) ∷ [])));
   throws = x.throws || y.throws || not (is_receiver f x.place);
   returns = false;
 }

@@ -1,5 +1,5 @@
 -- The program of a method. (This project's own.)
-use Rattle.std.specs.Prelude.{ℕ, zero, suc, ◌+◌, ◌==◌, nat_lt, max, pos, Bool, true, false, not, ◌||◌, ◌&&◌, if◌then◌else◌, List, [], ◌∷◌, ◌++◌, map, length, slice_get, Option, Some, None, option_map}
+use Rattle.std.specs.Prelude.{ℕ, zero, suc, ◌+◌, ◌==◌, nat_lt, max, pos, Bool, true, false, ◌||◌, if◌then◌else◌, List, [], ◌∷◌, ◌++◌, map, length, Option, Some, None, option_map}
 use Rattle.std.specs.List.{range_with_len}
 use Rattle.taco_unit.specs.declared.kind.Kind.{Kind}
 use Rattle.taco_unit.specs.declared.kind.Kind.TheVariants.{Int, Flag, Ref}
@@ -12,13 +12,11 @@ use Rattle.heap_core.specs.Posed.{Posed}
 use Rattle.heap_core.specs.Start.{method_of}
 use Rattle.dyn_core.specs.declared.prog.Act.{Act}
 use Rattle.dyn_core.specs.declared.prog.Act.TheVariants.{Copy, Const, Sum, Diff, Product, Same, Below, Read, Write, Make}
-use Rattle.dyn_core.specs.declared.prog.Prog.{Prog}
 use Rattle.dyn_plan.specs.declared.plan.Plan.{Plan, fold-Plan}
 use Rattle.dyn_plan.specs.declared.plan.Plan.TheOpen.{Plan-F}
 use Rattle.dyn_plan.specs.declared.plan.Plan.TheVariants as l
-use Rattle.dyn_plan.specs.Places.{Ground, Spots, width, slot, zero_number, one_number, flag_of}
+use Rattle.dyn_plan.specs.Places.{Ground, Spots, width, slot}
 use Rattle.dyn_plan.specs.Guards.{Lowered}
-use Rattle.dyn_plan.specs.Expressions.{Inline, kind_or}
 use Rattle.dyn_plan.specs.Frames.{result_of, inline_body, inlined}
 
 -- ## which variables are named
