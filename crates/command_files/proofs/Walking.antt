@@ -80,7 +80,7 @@ module _ (files : List TextFile) (n : ℕ) (f : TextFile) (listed : slice_get fi
         content = content_too;
         calm = λ name. whole.calm name ∙ through.calm name;
         others = λ slot past. behind slot (omega (arith, past));
-        read = λ slot g is before. elim (eq-or-lt_of_le {slot} {n} (omega (arith, before))) [
+        read = λ slot g is before. elim (eq-or-lt_of_le {n = slot} {m = n} (omega (arith, before))) [
           | inl same ↦ opened_at slot same g is
           | inr less ↦ read_before slot g is less
         ];
@@ -96,7 +96,7 @@ module _ (files : List TextFile) (n : ℕ) (f : TextFile) (listed : slice_get fi
       → slice_get files slot ≡ Some g → IsTouched slot g (most_of ends g.limit) old new
   touched_by most enough ends is_most at_least touched slot g is = elim (cases_lt slot n) [
     | inl less ↦ inr (opened_more slot g g.limit (most_of ends g.limit) old new (at_least g) (read_before slot g is less))
-    | inr more ↦ elim (eq-or-lt_of_le {n} {slot} more) [
+    | inr more ↦ elim (eq-or-lt_of_le {n = n} {m = slot} more) [
       | inl same ↦ here (sym same)
       | inr past ↦ inl (behind slot past)
     ]
@@ -122,7 +122,7 @@ module _ (files : List TextFile) (n : ℕ) (f : TextFile) (listed : slice_get fi
         faults = λ name. let a = stays.faults name in let b = through.calm name in omega (arith, a, b);
         others = λ slot past. behind slot (omega (arith, past, before_end));
         touched = touched_by most enough ends is_most at_least touched;
-        opened = λ slot g is before. elim (eq-or-lt_of_le {slot} {n} (omega (arith, before, shown))) [
+        opened = λ slot g is before. elim (eq-or-lt_of_le {n = slot} {m = n} (omega (arith, before, shown))) [
           | inl same ↦ name_here slot g same is (named (subst (λ i. i < opened_by ends (length files)) same before))
           | inr less ↦ (read_before slot g is less).named
         ];
@@ -158,7 +158,7 @@ said files Second Says n old new ends output through few shown enough no_fault t
 
 module _ (files : List TextFile) (Second : (List ℕ → Option (List ℕ)) → Type 0) (Says : (List ℕ → Option (List ℕ)) → Status → List ℕ → Type 0) where
   -- what an outcome answers
-  Answers : (old new : Shelf) → Outcome → Type 0
+  abbrev pub Answers : (old new : Shelf) → Outcome → Type 0
   Answers old new o = IsAnswered files Second Says old new o.status o.output.items
 
   -- want of memory after the first n files
