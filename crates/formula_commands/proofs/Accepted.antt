@@ -1,7 +1,7 @@
 -- A log that `sat` printed refutes the formula of its file, and its text is of no other log: so `proof` says that it refutes.
-use Rattle.std.proofs.Common.{◌≡◌, ℕ, ◌<◌, ◌≤◌, Bool, List, [], ◌∷◌, ◌++◌, length, get_or, drop, Option, Some, None, sym, ap, subst, ◌∙◌, inl, inr, arith}
-use Rattle.std.specs.Prelude.{IfSome, slice_get, codes}
-use Rattle.std.proofs.Math.Option.{some-injective}
+use Rattle.std.proofs.Common.{◌≡◌, ℕ, zero, suc, ◌<◌, ◌≤◌, Bool, List, [], ◌∷◌, ◌++◌, length, get_or, drop, Option, Some, None, sym, ap, subst, ◌∙◌, inl, inr, arith}
+use Rattle.std.specs.Prelude.{IfSome, slice_get, unwrap_or, codes}
+
 use Rattle.std.proofs.lemmas.Bool.{false≢true}
 use Rattle.cnf_core.specs.Clauses.{Clauses}
 use Rattle.derivation.specs.Logs.{Refutes}
@@ -41,7 +41,7 @@ proved bytes text evidence printed = elim printed.searched.verdict [
     other : (values : List Bool) → codes "s UNSATISFIABLE\n" ++ text ≡ satisfiable_text values → ⊥
     other values same = let third : ◌≡◌ {A = ℕ} 85 83 = ap (λ (bytes : List ℕ). get_or bytes 2 0) same in absurd (omega arith)
 
-    behind : codes "s UNSATISFIABLE\n" ++ text ≡ unsatisfiable_text evidence.log → text ≡ text_of_log proof.log
+    behind : codes "s UNSATISFIABLE\n" ++ text ≡ unsatisfiable_text evidence.log → text ≡ text_of_log evidence.log
     behind same = ap (drop 16) same
 
 module _ (formula : Clauses) (steps : List Step) (bytes text : List ℕ) (known : IsProved formula steps bytes text) (short : length text ≤ text_limit) where
@@ -79,12 +79,12 @@ module _ (formula : Clauses) (steps : List Step) (bytes text : List ℕ) (known 
     -- the file of either slot is not too long
     listed_short : (slot : ℕ) (f : TextFile) → slice_get (formula_file cnf ∷ formula_file log ∷ []) slot ≡ Some f → IfSome (told f.name) (λ b. f.limit < length b) → ⊥
     listed_short zero f is long =
-        let same : formula_file cnf ≡ f = some-injective (formula_file cnf) f is in
+        let same : formula_file cnf ≡ f = ap (λ (o : Option TextFile). unwrap_or o (formula_file cnf)) is in
         let at_file : IfSome (told cnf) (λ b. text_limit < length b) = subst (λ (g : TextFile). IfSome (told g.name) (λ b. g.limit < length b)) (sym same) long in
         let more : text_limit < length bytes = content (λ b. text_limit < length b) (told cnf) bytes hold.formula at_file in
         absurd (omega (arith, known.formula_is.short))
     listed_short (suc zero) f is long =
-        let same : formula_file log ≡ f = some-injective (formula_file log) f is in
+        let same : formula_file log ≡ f = ap (λ (o : Option TextFile). unwrap_or o (formula_file log)) is in
         let at_file : IfSome (told log) (λ b. text_limit < length b) = subst (λ (g : TextFile). IfSome (told g.name) (λ b. g.limit < length b)) (sym same) long in
         let more : text_limit < length text = content (λ b. text_limit < length b) (told log) text hold.lines at_file in
         absurd (omega arith)

@@ -7,17 +7,19 @@ use Rattle.sat_solver.specs.Answers.{IsRight}
 use Rattle.sat_solver.specs.declared.answer.SatAnswer.{SatAnswer}
 use Rattle.sat_solver.specs.declared.answer.SatAnswer.TheVariants.{Satisfied, Refuted, Spent}
 use Rattle.evidence.specs.declared.Evidence.{Evidence}
-use Rattle.taco_io.specs.Shelf.{Shelf}
+use Rattle.taco_io.specs.Shelf.{Shelf, Stays}
 use Rattle.taco_report.specs.declared.status.Status.{Status}
 use Rattle.taco_report.specs.declared.status.Status.TheVariants as status
 use Rattle.command_files.specs.declared.outcome.Outcome.{Outcome}
 use Rattle.command_files.specs.Answers.{IsAnswered, NoSecond}
 use Rattle.command_files.proofs.Told.{if_told_more}
-use Rattle.command_files.proofs.Walking.{IsThrough, said}
+use Rattle.command_files.proofs.Walking.{IsThrough, none_read, said}
+use Rattle.formula_commands.specs.declared.text.TextEnd.{TextEnd}
 use Rattle.formula_commands.specs.declared.sat_command.Searched.{Searched}
 use Rattle.formula_commands.specs.SatCommand.{IsSearched, SatSays, TellsSearch, has_evidence}
 use Rattle.formula_commands.specs.Searches.{IsVerdict, TellsAnswer}
-use Rattle.formula_commands.specs.Texts.{IsFormula, formula_file}
+use Rattle.formula_commands.specs.Texts.{EndsText, Fetches, IsFormula, IsNoFormula, formula_file}
+use Rattle.formula_commands.proofs.Fetching.{text_answered}
 
 -- what the answer comes to is its verdict
 pub verdict : (cnf : Clauses) (log : List Step) (budget : ℕ) (answer : SatAnswer) (o : Outcome) → IsRight cnf log budget answer → TellsAnswer answer log o
@@ -60,3 +62,12 @@ module _ (cnf : List ℕ) (budget : ℕ) (old new : Shelf) (formula : Clauses) (
       let cnf_is : IfSome (old.content cnf) (λ bytes. IsFormula bytes e.cnf) = subst (λ (f : Clauses). IfSome (old.content cnf) (λ bytes. IsFormula bytes f)) (sym is.same) held in
       subst (λ (o : Option Evidence). IsFound cnf budget old new o searched.outcome.status searched.outcome.output.items) (sym is.there)
       (by_status e (λ ends output tells. record { cnf_is = cnf_is; kept = is.kept; no_tuples = is.no_tuples; verdict = tells }) searched.outcome.status searched.outcome.output.items is.verdict)
+
+-- the file gave no formula
+pub none_found : (cnf : List ℕ) (budget : ℕ) (old new : Shelf) (e : TextEnd) (searched : Searched) (o : Outcome) → searched ≡ record { outcome = o; evidence = None }
+    → Fetches {V = Clauses} 0 (formula_file cnf) IsFormula IsNoFormula old new (Err e) → Stays 0 old new → EndsText 0 e o
+    → IsAnswered (formula_file cnf ∷ []) NoSecond (SatSays cnf budget searched.evidence) old new searched.outcome.status searched.outcome.output.items
+none_found cnf budget old new e searched o is fetches stays ends =
+    subst (λ (s : Searched). IsAnswered (formula_file cnf ∷ []) NoSecond (SatSays cnf budget s.evidence) old new s.outcome.status s.outcome.output.items) (sym is)
+    (text_answered {V = Clauses} (formula_file cnf ∷ []) NoSecond (SatSays cnf budget None) 0 (formula_file cnf) IsFormula IsNoFormula old old new e o refl (inl refl) (omega arith)
+    (none_read (formula_file cnf ∷ []) old) stays fetches ends (λ at no. (refl, refl, no)))

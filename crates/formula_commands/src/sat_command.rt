@@ -1,4 +1,4 @@
-ghost use Rattle.std.specs.Prelude.{◌≡◌, [], ◌∷◌, IfOk, is_some};
+ghost use Rattle.std.specs.Prelude.{◌≡◌, [], ◌∷◌, IfOk, None, is_some};
 ghost use Rattle.command_files.specs.Answers.{IsAnswered, NoSecond};
 ghost use Rattle.formula_commands.specs.SatCommand.{SatSays, has_evidence};
 ghost use Rattle.formula_commands.specs.Searches.{IsVerdict, TellsAnswer};
@@ -45,7 +45,7 @@ fn told(alloc: Global, answer: &SatAnswer, log: &Log) -> Result<Outcome, NoMemor
 }
 
 /// The verdict on a formula, with what it rests on.
-fn searched(alloc: Global, formula: Cnf, budget: u64) -> Result<Searched, NoMemory>
+fn decided(alloc: Global, formula: Cnf, budget: u64) -> Result<Searched, NoMemory>
     ensures { IfOk result (IsVerdict formula budget) }
 {
     let solver = Solver::new(alloc, formula, budget)?;
@@ -64,7 +64,7 @@ fn searched(alloc: Global, formula: Cnf, budget: u64) -> Result<Searched, NoMemo
 
 /// An outcome without evidence.
 fn bare(outcome: Outcome) -> Searched
-    ensures { result ≡ record { outcome = outcome; evidence = Option.None } }
+    ensures { result ≡ record { outcome = outcome; evidence = None } }
 {
     Searched {
         outcome,
@@ -88,7 +88,7 @@ pub fn search_formula<F: Files>(
         Ok(formula) => formula,
         Err(end) => return bare(text_ended(alloc, 0, end)),
     };
-    match searched(alloc, formula, budget) {
+    match decided(alloc, formula, budget) {
         Ok(searched) => searched,
         Err(NoMemory) => bare(silent(alloc, Status::NoMemory)),
     }

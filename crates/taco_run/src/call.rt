@@ -1,4 +1,4 @@
-ghost use Rattle.std.specs.Prelude.{◌≡◌, ◌≢◌, map, Some};
+ghost use Rattle.std.specs.Prelude.{◌≡◌, map, None, Some};
 ghost use Rattle.command_files.specs.Outcomes.{IsRefusing};
 ghost use Rattle.taco_report.specs.declared.status.Status.TheVariants as status;
 ghost use Rattle.taco_run.specs.Headline.{IsWritten, Runs};
@@ -27,7 +27,7 @@ pub struct Reply {
 
 /// A reply without evidence.
 fn plain(outcome: Outcome) -> Reply
-    ensures { result ≡ record { outcome = outcome; proof = Option.None } }
+    ensures { result ≡ record { outcome = outcome; proof = None } }
 {
     Reply {
         outcome,

@@ -2,7 +2,7 @@ use Rattle.std.proofs.Common.{refl, ap, ◌∙◌, subst}
 use Rattle.sat_solver.specs.Answers.{IsKept, IsRight}
 use Rattle.sat_solver.specs.Loading.{Asked}
 use Rattle.formula_commands.proofs.Searching.{verdict}
-use Rattle.formula_commands.proofs.sat_command.searched.Goals as goal
+use Rattle.formula_commands.proofs.sat_command.decided.Goals as goal
 
 pub returns : goal.returns
 returns c =
