@@ -1,4 +1,4 @@
-use crate::calls::{Row, have_answers};
+use crate::calls::{Row, first_wrong};
 use std::test::Fail;
 use taco_run::Status;
 
@@ -62,5 +62,6 @@ fn logs_have_their_lines(rt: HostRuntime) -> Result<(), Fail> {
             "",
         ),
     ];
-    have_answers(&rt, &rows)
+    assert_eq!(rt; first_wrong(rt.alloc(), &rows)?, None);
+    Ok(())
 }

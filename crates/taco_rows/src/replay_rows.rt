@@ -1,4 +1,4 @@
-use crate::calls::{Row, has_answer, have_answers};
+use crate::calls::{Row, first_wrong, has_answer};
 use std::test::Fail;
 use taco_run::Status;
 
@@ -106,7 +106,8 @@ fn starts_are_judged(rt: HostRuntime) -> Result<(), Fail> {
             "judged breaks ensures 1\nresult @0\nobjects 1\n@0 N next=null\n",
         ),
     ];
-    have_answers(&rt, &rows)
+    assert_eq!(rt; first_wrong(rt.alloc(), &rows)?, None);
+    Ok(())
 }
 
 /// An undefined or a false precondition is not met, a clause that leaves the scope is outside, and a
@@ -136,7 +137,8 @@ fn preconditions_are_read_in_order(rt: HostRuntime) -> Result<(), Fail> {
             "judged meets\nresult 6\nobjects 0\n",
         ),
     ];
-    have_answers(&rt, &rows)
+    assert_eq!(rt; first_wrong(rt.alloc(), &rows)?, None);
+    Ok(())
 }
 
 /// States of `bump`, and the place of the first line that is not right.

@@ -1,4 +1,4 @@
-use crate::calls::{Row, answer, have_answers, shelf};
+use crate::calls::{Row, answer, first_wrong, shelf};
 use no_memory::NoMemory;
 use std::alloc::Global;
 use std::test::Fail;
@@ -52,7 +52,8 @@ fn formulas_have_their_lines(rt: HostRuntime) -> Result<(), Fail> {
         (SAT, "p cnf 1 1\n1 2 0\n", "", bad, "badtext 0 12\n"),
         ("sat none", CHAIN, "", Status::ReadFault, ""),
     ];
-    have_answers(&rt, &rows)
+    assert_eq!(rt; first_wrong(rt.alloc(), &rows)?, None);
+    Ok(())
 }
 
 /// Whether a formula is told to have no solution, and the log that is printed passes as refuting it.
