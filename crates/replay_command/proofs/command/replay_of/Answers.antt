@@ -1,4 +1,4 @@
-use Rattle.boolean_trial.proofs.Found.{if_ok_more}
+use Rattle.std.proofs.lemmas.Result.{IfOk-weaker}
 use Rattle.taco_report.specs.declared.status.Status.TheVariants as status
 use Rattle.taco_report.specs.RefusalLines.{refusal_line}
 use Rattle.replay_command.specs.Replaying.{IsShown, ReplaysText, shown, refused}
@@ -10,7 +10,7 @@ pub returns-in-Ok : goal.returns-in-Ok
 returns-in-Ok c =
     let p = c.args.problem.now in
     let read = c.in-Ok.ensures.read in
-    if_ok_more (IsShown p c.in-Ok.start) (ReplaysText p c.args.text.now) c.shown.result
+    IfOk-weaker c.shown.result (IsShown p c.in-Ok.start) (ReplaysText p c.args.text.now)
     (λ o is. shown c.in-Ok.start (record { short = c.requires; fits = read.0; text = read.1.text_is }) is) c.shown.ensures
 
 pub returns-in-Err-BadState : goal.returns-in-Err-BadState
@@ -18,5 +18,5 @@ returns-in-Err-BadState c =
     let p = c.args.problem.now in
     let at = c.in-Err-BadState.at in
     let fault = c.in-Err-BadState.ensures in
-    if_ok_more (IsOutcome (status.BadState at) (refusal_line (status.BadState at))) (ReplaysText p c.args.text.now) c.refusal.result
+    IfOk-weaker c.refusal.result (IsOutcome (status.BadState at) (refusal_line (status.BadState at))) (ReplaysText p c.args.text.now)
     (λ o is. refused at (not_state p c.args.text.now c.in-Err-BadState.field-0 at c.in-Err-BadState.field-0-is c.requires fault.fault fault.whole) is) c.refusal.ensures
