@@ -13,7 +13,7 @@ use std::alloc::Global;
 use std::process::ExitCode;
 use std::rt::Env;
 use std::{env, io};
-use taco_io::{RealFiles, RealSink};
+use taco_io::{Files, RealFiles, RealSink, Sink};
 use taco_run::{Status, run};
 
 /// The status where the system gives no words for want of memory, and where it gives none for
