@@ -20,7 +20,7 @@ use Rattle.check_command.specs.CheckCommand.{CheckSays}
 use Rattle.check_command.specs.Decided.{CheckedBy, Checks}
 
 module _ (job : Job) (old new : Shelf) (stays : Stays 0 old new) where
-  Answers : Status → List ℕ → Type 0
+  abbrev pub Answers : Status → List ℕ → Type 0
   Answers ends output = IsAnswered (java_file job ∷ []) NoSecond (CheckSays job) old new ends output
 
   shared : (told : List ℕ → Option (List ℕ)) (ends : Status) (output : List ℕ) → PosesNone told job ends output → CheckSays job told ends output

@@ -47,7 +47,7 @@ done_or_broken (judged.Breaks part) = inr refl
 done_or_broken judged.Meets = inl refl
 
 module _ (job : Job) (state : List ℕ) where
-  Answers : Shelf → Shelf → Outcome → Type 0
+  abbrev pub Answers : Shelf → Shelf → Outcome → Type 0
   Answers old new o = IsAnswered (java_file job ∷ state_file state ∷ []) (HoldsSome job) (ReplaySays job state) old new o.status o.output.items
 
   shared : (told : List ℕ → Option (List ℕ)) (ends : Status) (output : List ℕ) → PosesNone told job ends output → ReplaySays job state told ends output
