@@ -27,7 +27,7 @@ returns-in-Ok-read_file g c =
     state_answered c.args.job.now c.args.state.now old mid new p fetches.0 fetches.1 fetches.2 c.in-Ok.ensures.stays c.in-Ok-read_file.ensures.stays bytes (subst told_at c.as_str.ensures reads.0)
     (subst whole_at c.as_str.ensures reads.2) c.replay_of.result c.or_no_memory.result (subst replays c.deref.ensures.value c.replay_of.ensures) c.or_no_memory.ensures
 
-pub returns : goal.returns-in-Err-read_file
+pub returns : goal.returns
 returns g c =
     let p = c.in-Ok.problem in
     let fetches = c.in-Ok.ensures.fetches in
