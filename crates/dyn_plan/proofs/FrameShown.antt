@@ -1,8 +1,9 @@
 -- Inlined methods, of every depth, show what methods do.
-use Rattle.std.proofs.Common.{◌≡◌, ℕ, zero, suc, ◌<◌, ◌≤◌, Bool, true, false, List, [], ◌∷◌, ◌++◌, Option, Some, None, refl, sym, ◌∙◌, ap, subst, arith}
+use Rattle.std.proofs.Common.{◌≡◌, ℕ, zero, suc, ◌+◌, ◌<◌, ◌≤◌, Bool, true, false, List, [], ◌∷◌, ◌++◌, Option, Some, None, refl, sym, ◌∙◌, ap, subst, arith}
 use Rattle.std.specs.Prelude.{◌&&◌, option_and_then, option_map, map, slice_get, is_none, if◌then◌else◌}
 use Rattle.std.proofs.lemmas.Bool.{false≢true}
 use Rattle.taco_unit.specs.declared.kind.Kind.{Kind}
+use Rattle.taco_unit.specs.declared.kind.Kind.TheVariants.{Int}
 use Rattle.taco_unit.specs.declared.unit.MethodDef.{MethodDef}
 use Rattle.heap_core.specs.declared.value.Value.{Value}
 use Rattle.heap_core.specs.declared.value.Value.TheVariants.{Flag}
@@ -16,9 +17,9 @@ use Rattle.dyn_core.proofs.Vars.{var_set, var_apart}
 use Rattle.dyn_plan.specs.declared.plan.Plan.{Plan}
 use Rattle.dyn_plan.specs.declared.plan.Plan.TheVariants as l
 use Rattle.dyn_plan.specs.Plans.{go}
-use Rattle.dyn_plan.specs.Places.{Ground, Spots}
+use Rattle.dyn_plan.specs.Places.{Ground, Spots, slot}
 use Rattle.dyn_plan.specs.Guards.{guarded}
-use Rattle.dyn_plan.specs.Expressions.{Inline}
+use Rattle.dyn_plan.specs.Expressions.{Inline, kind_or, kind_of_result}
 use Rattle.dyn_plan.specs.Statements.{Laid, lay, stops}
 use Rattle.dyn_plan.specs.Frames.{result_of, frame_of, prologue, epilogue, passed_on, inline_body, inlined}
 use Rattle.dyn_plan.proofs.PlanForms.{next_fail}
@@ -223,8 +224,9 @@ no_more false = refl
 pub inlines : (p : Posed) (g : Ground) → g.unit ≡ p.unit → (g.turnless ≡ true → p.scope.loops ≡ 0) → (d : ℕ) → Inlines p p.scope.loops g (calls p d) (inlined g d)
 inlines p g same none zero = record {
   shows = λ method this args w f b start s m v vs flags above opened this_is below each values.
-      subst (λ e. Shows false start f s (InlineResult w b b s) e (go p p.scope.loops (l.Fail ∷ []) s)) (sym (no_more w))
-      (goes_nowhere p p.scope.loops false start f s s (InlineResult w b b s));
+      let x : ℕ = b + slot g (kind_or (kind_of_result g method) Int) in
+      subst (λ e. Shows false start f s (InlineResult w b x s) e (go p p.scope.loops (l.Fail ∷ []) s)) (sym (no_more w))
+      (goes_nowhere p p.scope.loops false start f s s (InlineResult w b x s));
 }
 inlines p g same none (suc d) = record {
   shows = λ method this args w f b start s m v vs flags above opened this_is below each values.

@@ -256,3 +256,10 @@ closing = refl
 -- rows as far as the greatest variable
 rows_reach : rows_up_to 9 (base_of inc) 2 7 ≡ Int ∷ Flag ∷ Ref 0 ∷ Int ∷ Flag ∷ Ref 0 ∷ []
 rows_reach = refl
+
+-- ## a call beyond the depth would give its result at a variable of the result's kind, here a truth value
+abbrev deeper : Posed
+deeper = posed [] (method_with true [] (Some (Flag, false)) [] (s.Block []) ∷ []) 3 0
+
+beyond : inlined (base_of deeper) 0 0 None [] true (inner deeper) 29 ≡ record { place = 30; steps = l.Fail ∷ []; throws = false }
+beyond = refl

@@ -11,7 +11,7 @@ use Rattle.dyn_plan.specs.declared.plan.Plan.{Plan}
 use Rattle.dyn_plan.specs.declared.plan.Plan.TheVariants as l
 use Rattle.dyn_plan.specs.Places.{Ground, Spots, width, slot, in_rows, past_rows, for_each_argument}
 use Rattle.dyn_plan.specs.Guards.{Lowered, guarded, nowhere}
-use Rattle.dyn_plan.specs.Expressions.{Inline, kind_or}
+use Rattle.dyn_plan.specs.Expressions.{Inline, kind_or, kind_of_result}
 use Rattle.dyn_plan.specs.Statements.{Laid, lay, stops}
 
 -- the kind of a method's result; that of numbers where it has none
@@ -72,7 +72,8 @@ inline_body g inline None this args wanted caller b = nowhere b
 inline_body g inline (Some d) this args wanted caller b =
     in_frame d args caller (frame_of g d this args wanted b) (lay g inline d.body (frame_of g d this args wanted b))
 
--- calls that are inlined d deep; a deeper one has no following state
+-- calls that are inlined d deep; a deeper one has no following state, and would give its result where one of its kind
+-- stands
 abbrev pub inlined : Ground → ℕ → Inline
-inlined g zero m this args wanted caller b = nowhere b
+inlined g zero m this args wanted caller b = nowhere (b + slot g (kind_or (kind_of_result g m) Int))
 inlined g (suc d) m this args wanted caller b = inline_body g (inlined g d) (slice_get g.unit.methods m) this args wanted caller b
