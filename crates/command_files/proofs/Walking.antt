@@ -190,11 +190,14 @@ module _ (files : List TextFile) (Second : (List ℕ → Option (List ℕ)) → 
       → IsThrough files n old mid → Stays n mid new → EndsFile n f mid new e → EndsWithout n e o → Answers old new o
   file_ended n f old mid new end.TooLong o listed comes before_end through stays ends is = elim is.is [
     | inl told ↦ subst (λ (s : Status). IsAnswered files Second Says old new s o.output.items) (sym told.status_is) (record {
-      tells = (told.told, record {
-        file = f;
-        reached = record { listed = listed; comes = comes };
-        long = subst (λ (content : Option (List ℕ)). IfSome content (λ bytes. f.limit < length bytes)) (through.content f.name) ends.0;
-      });
+      tells = (
+        told.told,
+        record {
+          file = f;
+          reached = record { listed = listed; comes = comes };
+          long = subst (λ (content : Option (List ℕ)). IfSome content (λ bytes. f.limit < length bytes)) (through.content f.name) ends.0;
+        },
+      );
       failed = λ fault. absurd (cc);
       calm = λ none name. ends.2 name ∙ through.calm name;
       leaves = leaves_at files n f listed old mid new through stays (f.limit + 1) (omega arith) (status.TooLong n) refl (λ g. omega arith) before_end (omega arith) (λ shown. ends.1.named)

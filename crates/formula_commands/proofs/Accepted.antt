@@ -1,7 +1,6 @@
 -- A log that `sat` printed refutes the formula of its file, and its text is of no other log: so `proof` says that it refutes.
 use Rattle.std.proofs.Common.{◌≡◌, ℕ, zero, suc, ◌<◌, ◌≤◌, Bool, List, [], ◌∷◌, ◌++◌, length, get_or, drop, Option, Some, None, sym, ap, subst, ◌∙◌, inl, inr, arith}
 use Rattle.std.specs.Prelude.{IfSome, slice_get, unwrap_or, codes}
-
 use Rattle.std.proofs.lemmas.Bool.{false≢true}
 use Rattle.cnf_core.specs.Clauses.{Clauses}
 use Rattle.derivation.specs.Logs.{Refutes}
@@ -67,7 +66,7 @@ module _ (formula : Clauses) (steps : List Step) (bytes text : List ℕ) (known 
         let log_is : IsLog j.formula.vars text j.steps = content (λ b. IsLog j.formula.vars b j.steps) (told log) text hold.lines j.log_is in
         let same_log : j.steps ≡ steps = log_is.only steps (text_of j.formula j.cnf_is) in
         on_log ends output (subst (λ (s : List Step). TellsLog formula s ends output) same_log
-            (subst (λ (f : Clauses). TellsLog f j.steps ends output) (sym (same_formula j.formula j.cnf_is)) j.verdict))
+        (subst (λ (f : Clauses). TellsLog f j.steps ends output) (sym (same_formula j.formula j.cnf_is)) j.verdict))
 
     -- so neither text is wrong, and neither is too long
     none_wrong : (slot at : ℕ) → LiesIn told cnf log slot at → ⊥

@@ -34,5 +34,5 @@ text_answered files Second Says n f Is IsNo old mid new (end.File e) o listed co
     file_ended files Second Says n f old mid new e o listed comes before_end through stays fetches ends
 text_answered files Second Says n f Is IsNo old mid new (end.BadText at) o listed comes before_end through stays fetches ends says =
     refusing files Second Says (n + 1) old new (status.BadText n at) o (one_more_read files n f listed old mid new through stays fetches.1) (omega (arith, before_end)) (omega arith)
-        (λ limit. omega arith) (λ fault. cc) ends
+    (λ limit. omega arith) (λ fault. cc) ends
     (says at (subst (λ (content : Option (List ℕ)). IfSome content (λ bytes. IsNo bytes at)) (through.content f.name) fetches.0))

@@ -43,13 +43,13 @@ module _ (cnf : List ℕ) (budget : ℕ) (old new : Shelf) (formula : Clauses) (
   by_status evidence searched status.Done output tells =
       record {
         answered = said (formula_file cnf ∷ []) NoSecond (SatSays cnf budget (Some evidence)) 1 old new status.Done output through (omega arith) (omega arith) (λ limit. omega arith) (λ fault. cc)
-        (searched status.Done output tells);
+            (searched status.Done output tells);
         evident = refl;
       }
   by_status evidence searched status.Unknown output tells =
       record {
         answered = said (formula_file cnf ∷ []) NoSecond (SatSays cnf budget (Some evidence)) 1 old new status.Unknown output through (omega arith) (omega arith) (λ limit. omega arith) (λ fault. cc)
-        (searched status.Unknown output tells);
+            (searched status.Unknown output tells);
         evident = refl;
       }
   by_status evidence searched _ output tells = absurd tells

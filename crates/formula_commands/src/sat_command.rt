@@ -75,12 +75,7 @@ fn bare(outcome: Outcome) -> Searched
 /// Searches for values that satisfy the formula of a file, read through slot 0, by conflict-driven
 /// learning. The search learns at most `budget` lines, or any number where this is 0. It always ends,
 /// but its time may grow exponentially with the number of variables.
-pub fn search_formula<F: Files>(
-    alloc: Global,
-    files: &mut F,
-    cnf: &Text,
-    budget: u64,
-) -> Searched
+pub fn search_formula<F: Files>(alloc: Global, files: &mut F, cnf: &Text, budget: u64) -> Searched
     ensures answered { IsAnswered (formula_file cnf.now ∷ []) NoSecond (SatSays cnf.now budget result.evidence) (F.shelf files.old) (F.shelf files.new) result.outcome.status result.outcome.output.items }
     ensures evident { is_some result.evidence ≡ has_evidence result.outcome.status }
 {

@@ -69,7 +69,7 @@ module _ (job : Job) (state : List ℕ) where
     pub state_ended : (e : FileEnd) (o : Outcome) → EndsFile 1 (state_file state) mid new e → EndsWithout 1 e o → Answers old new o
     state_ended e o ends is =
         file_ended (java_file job ∷ state_file state ∷ []) (HoldsSome job) (ReplaySays job state) 1 (state_file state) old mid new e o refl (inr (record { problem = p; holds = posed }))
-            (omega arith) through second
+        (omega arith) through second
         ends is
 
     module _ (bytes : List ℕ) (told : IfSome (mid.content state) (λ xs. bytes ≡ xs)) (read : IsReadWhole 1 (state_file state) mid new) where
@@ -84,17 +84,17 @@ module _ (job : Job) (state : List ℕ) where
           let state_is : IfSome (old.content state) (λ xs. IsState p xs s) = lifted (λ xs. IsState p xs s) bytes (old.content state) told_before is in
           ⊎_elim
           (λ done. outcome_said (java_file job ∷ state_file state ∷ []) (HoldsSome job) (ReplaySays job state) 2 old new status.Done o through_both (omega arith) (omega arith)
-              (λ limit. omega arith) (λ fault. cc)
+          (λ limit. omega arith) (λ fault. cc)
           (tells.status_is ∙ done)
           (record { problem = p; start = s; scope = scope; fits = is.fits; posed = posed; state_is = state_is; ends_is = sym done; output_is = tells.told }))
           (λ broken. outcome_said (java_file job ∷ state_file state ∷ []) (HoldsSome job) (ReplaySays job state) 2 old new status.Broken o through_both (omega arith) (omega arith)
-              (λ limit. omega arith) (λ fault. cc)
+          (λ limit. omega arith) (λ fault. cc)
           (tells.status_is ∙ broken)
           (record { problem = p; start = s; scope = scope; fits = is.fits; posed = posed; state_is = state_is; ends_is = sym broken; output_is = tells.told }))
           (done_or_broken (judged_of p s))
       by_text o (refused at none tells) =
           outcome_said (java_file job ∷ state_file state ∷ []) (HoldsSome job) (ReplaySays job state) 2 old new (status.BadState at) o through_both (omega arith) (omega arith)
-              (λ limit. omega arith) (λ fault. cc)
+          (λ limit. omega arith) (λ fault. cc)
           tells.status_is
           (tells.told, record { problem = p; posed = posed; no_state = lifted (λ xs. IsNoState p xs at) bytes (old.content state) told_before none })
 

@@ -65,10 +65,12 @@ pub(crate) fn has_answer(
     let mut files = shelf(alloc, texts.0, texts.1, 3, &[])?;
     let mut plain_sink = MemSink::new(alloc, 100_000, 1, Vec::new(alloc))?;
     let plain = plain_answer(alloc, line, &mut files, &mut plain_sink)?.status;
-    Ok(ended == status
-        && plain == status
-        && sink.bytes() == printed
-        && plain_sink.bytes() == printed)
+    Ok(
+        ended == status
+            && plain == status
+            && sink.bytes() == printed
+            && plain_sink.bytes() == printed,
+    )
 }
 
 /// The number of the first row that has another answer, counted from 0.

@@ -91,7 +91,11 @@ fn refused_texts_have_the_place_of_their_fault(rt: HostRuntime) -> Result<(), Fa
             absent(Absent::Array, 13),
             "unsupported array 13",
         ),
-        ("class A { B x; }", Refusal::Unknown { at: 10 }, "unknown 10"),
+        (
+            "class A { B x; }",
+            Refusal::Unknown { at: 10 },
+            "unknown 10",
+        ),
         ("class A { # }", Refusal::BadToken { at: 10 }, "badtoken 10"),
         (
             "class A { int x; boolean x; }",
@@ -137,7 +141,13 @@ fn refused_texts_have_the_place_of_their_fault(rt: HostRuntime) -> Result<(), Fa
     for (text, refusal, words) in rows {
         let printed = format!(in alloc; "source {words}\n")?;
         let texts = (text.as_bytes(), b"".as_slice());
-        let has = has_answer(alloc, ID, texts, Status::Source(refusal), printed.as_bytes())?;
+        let has = has_answer(
+            alloc,
+            ID,
+            texts,
+            Status::Source(refusal),
+            printed.as_bytes(),
+        )?;
         assert!(rt; has, "{text}");
     }
     Ok(())
@@ -161,10 +171,7 @@ fn nested(alloc: Global, depth: usize) -> Result<Vec<u8>, Fail> {
 fn sixty_four_levels_are_read(rt: HostRuntime) -> Result<(), Fail> {
     let alloc = rt.alloc();
     let deep = Status::Source(Refusal::Deep { at: 111 });
-    let rows = [
-        (64, Status::Holds, HOLDS),
-        (65, deep, "source deep 111\n"),
-    ];
+    let rows = [(64, Status::Holds, HOLDS), (65, deep, "source deep 111\n")];
     for (depth, status, printed) in rows {
         let text = nested(alloc, depth)?;
         let texts = (text.as_slice(), b"".as_slice());

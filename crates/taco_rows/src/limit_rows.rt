@@ -56,15 +56,30 @@ fn states_have_a_limit(rt: HostRuntime) -> Result<(), Fail> {
     let none = "replay F G --class W --method down";
     let syntax = Status::Source(Refusal::Syntax { at: 10 });
     let rows = [
-        (UP_WORDS, UP, 262_144, Status::BadState { at: 0 }, "badstate 0\n"),
+        (
+            UP_WORDS,
+            UP,
+            262_144,
+            Status::BadState { at: 0 },
+            "badstate 0\n",
+        ),
         (UP_WORDS, UP, 262_145, long, "toolong\n"),
-        (UP_WORDS, "class L {\n", 262_145, syntax, "source syntax 10\n"),
+        (
+            UP_WORDS,
+            "class L {\n",
+            262_145,
+            syntax,
+            "source syntax 10\n",
+        ),
         (none, UP, 262_145, Status::NoMethod, "nomethod\n"),
     ];
     for (line, java, length, status, printed) in rows {
         let state = filled(alloc, "", length)?;
         let texts = (java.as_bytes(), state.as_slice());
-        assert!(rt; is_answered(alloc, line, texts, status, printed.as_bytes())?, "{printed}");
+        assert!(rt;
+            is_answered(alloc, line, texts, status, printed.as_bytes())?,
+            "{printed}"
+        );
     }
     Ok(())
 }
@@ -82,7 +97,10 @@ fn formulas_and_logs_have_a_limit(rt: HostRuntime) -> Result<(), Fail> {
         let cnf = filled(alloc, ALL_FOUR, cnf_length)?;
         let log = filled(alloc, "", log_length)?;
         let texts = (cnf.as_slice(), log.as_slice());
-        assert!(rt; is_answered(alloc, PROOF, texts, status, printed.as_bytes())?, "{printed}");
+        assert!(rt;
+            is_answered(alloc, PROOF, texts, status, printed.as_bytes())?,
+            "{printed}"
+        );
     }
     Ok(())
 }

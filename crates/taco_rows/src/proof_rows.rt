@@ -54,13 +54,7 @@ fn logs_have_their_lines(rt: HostRuntime) -> Result<(), Fail> {
             "badtext 0 12\n",
         ),
         ("proof F none", "p cnf 1", "", bad(0, 7), "badtext 0 7\n"),
-        (
-            "proof none G",
-            ALL_FOUR,
-            REFUTATION,
-            Status::ReadFault,
-            "",
-        ),
+        ("proof none G", ALL_FOUR, REFUTATION, Status::ReadFault, ""),
     ];
     assert_eq!(rt; first_wrong(rt.alloc(), &rows)?, None);
     Ok(())

@@ -119,10 +119,7 @@ fn preconditions_are_read_in_order(rt: HostRuntime) -> Result<(), Fail> {
         "class S {\n  //@ requires x < 7 && x + 1 > 0;\n  static int f(int x) { return x; } }\n";
     let second =
         "class S {\n  //@ requires x + 1 > 0 && x < 7;\n  static int f(int x) { return x; } }\n";
-    let (six, seven) = (
-        "objects 0\nthis none\nx=6\n",
-        "objects 0\nthis none\nx=7\n",
-    );
+    let (six, seven) = ("objects 0\nthis none\nx=6\n", "objects 0\nthis none\nx=7\n");
     let eight = "objects 0\nthis none\nx=8\n";
     let bad = Status::BadState { at: 24 };
     let rows: [Row; 4] = [
@@ -155,10 +152,7 @@ const DAMAGED: [(&str, u32); 13] = [
     ("objects 1\n@0 P v=0\nthis @0\na=@0\n", 32),
     ("objects 1\n@0 P v=0\nthis @0\na=@0\nb=@0\nc=@0\n", 37),
     ("objects 1\n@0 P v=9\nthis @0\na=@0\nb=@0\n", 37),
-    (
-        "objects 2\n@0 P v=0\n@1 P v=0\nthis @0\na=@0\nb=@0\n",
-        46,
-    ),
+    ("objects 2\n@0 P v=0\n@1 P v=0\nthis @0\na=@0\nb=@0\n", 46),
 ];
 
 #[test]
@@ -170,7 +164,10 @@ fn damaged_states_are_refused_with_their_place(rt: HostRuntime) -> Result<(), Fa
         let printed = format!(in alloc; "badstate {at}\n")?;
         let texts = (BUMP.as_bytes(), state.as_bytes());
         let status = Status::BadState { at };
-        assert!(rt; has_answer(alloc, line, texts, status, printed.as_bytes())?, "{state}");
+        assert!(rt;
+            has_answer(alloc, line, texts, status, printed.as_bytes())?,
+            "{state}"
+        );
     }
     Ok(())
 }

@@ -67,10 +67,12 @@ fn is_refuted(alloc: Global, line: &str, cnf: &str) -> Result<bool, NoMemory> {
     let mut files = shelf(alloc, cnf.as_bytes(), log, 9999, &[])?;
     let mut verdict = MemSink::new(alloc, 100, 9, Vec::new(alloc))?;
     let checked = answer(alloc, "proof F G", &mut files, &mut verdict)?;
-    Ok(ended.status == Status::Done
-        && ended.proof.is_some()
-        && checked.status == Status::Done
-        && verdict.bytes().starts_with(b"refuted "))
+    Ok(
+        ended.status == Status::Done
+            && ended.proof.is_some()
+            && checked.status == Status::Done
+            && verdict.bytes().starts_with(b"refuted "),
+    )
 }
 
 #[test]
