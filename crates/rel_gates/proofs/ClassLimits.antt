@@ -147,8 +147,7 @@ fit_from p kinds truth es all r gates found o place =
 class_place : (p : Posed) (kinds : Kinds) (r : RelVar) (o : ℕ) → r.what ≡ what.ClassOf → o < p.scope.objects → (has_place p kinds AsClass r o ≡ true) × (has_place p kinds AsNumber r o ≡ false)
 class_place p kinds r o is below =
     let less : nat_lt o p.scope.objects ≡ true = lt-ltb o p.scope.objects below in
-    let here : has_place p kinds AsClass r o ≡ (nat_lt o p.scope.objects && true) = ap (λ (w : What). has_use p kinds AsClass w && nat_lt o p.scope.objects && (not (is_slot w) || o == 0)) is in
-    (
+    let here : has_place p kinds AsClass r o ≡ (nat_lt o p.scope.objects && true) = ap (λ (w : What). has_use p kinds AsClass w && nat_lt o p.scope.objects && (not (is_slot w) || o == 0)) is in (
       ap (λ (w : What). has_use p kinds AsClass w && nat_lt o p.scope.objects && (not (is_slot w) || o == 0)) is ∙ ap (λ b. b && true) less,
       ap (λ (w : What). has_use p kinds AsNumber w && nat_lt o p.scope.objects && (not (is_slot w) || o == 0)) is,
     )

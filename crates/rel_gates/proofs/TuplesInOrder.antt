@@ -234,8 +234,7 @@ root_kind : (p : Posed) (m : MethodDef) (r : ℕ) → method_of p ≡ Some m →
 root_kind p m zero there is =
     let kinds : start_kinds p ≡ param_kinds m ++ receiver_kinds m = ap (λ o. option_map_or (λ (d : MethodDef). param_kinds d ++ receiver_kinds d) o []) there in
     let place : variable_of p 0 ≡ length (param_kinds m) + 0 =
-    ap (λ o. option_map_or (λ (d : MethodDef). length d.params) o 0) there ∙ omega (arith, length-map m.params (λ (d : ParamDef). d.kind)) in
-    (
+    ap (λ o. option_map_or (λ (d : MethodDef). length d.params) o 0) there ∙ omega (arith, length-map m.params (λ (d : ParamDef). d.kind)) in (
       kind.Ref m.class,
       ap (λ ks. slice_get ks (variable_of p 0)) kinds
           ∙ ap (slice_get (param_kinds m ++ receiver_kinds m)) place ∙ slice_get-append_right (param_kinds m) (receiver_kinds m) 0 ∙ ap (λ ks. slice_get ks 0) (receiver_is m m.fixed refl is),
@@ -243,8 +242,7 @@ root_kind p m zero there is =
     )
 root_kind p m (suc i) there is =
     let kinds : start_kinds p ≡ param_kinds m ++ receiver_kinds m = ap (λ o. option_map_or (λ (d : MethodDef). param_kinds d ++ receiver_kinds d) o []) there in
-    let found = param_of m i (slice_get m.params i) refl is in
-    (
+    let found = param_of m i (slice_get m.params i) refl is in (
       found.0,
       ap (λ ks. slice_get ks i) kinds ∙ slice_get-append_left (param_kinds m) (receiver_kinds m) i (slice_get_within (param_kinds m) i found.0 found.1) ∙ found.1,
       found.2,

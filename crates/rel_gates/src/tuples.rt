@@ -93,10 +93,7 @@ fn add_links(list: &mut Vec<(RelVar, usize)>, problem: &Problem) -> Result<(), N
 }
 
 /// The relations of the tuples in tuple order, each with as many gates as it has tuples.
-pub(crate) fn tuple_uses(
-    alloc: Global,
-    problem: &Problem,
-) -> Result<Vec<(RelVar, usize)>, NoMemory>
+pub(crate) fn tuple_uses(alloc: Global, problem: &Problem) -> Result<Vec<(RelVar, usize)>, NoMemory>
     ensures { IfOk result (λ r. r.items ≡ tuple_uses_lem problem.now) }
 {
     let mut list = Vec::new(alloc);
