@@ -1,5 +1,5 @@
 -- Whole programs, by their forms: sequences grow by a part, choices by a branch.
-use Rattle.std.proofs.Common.{◌≡◌, ◌⊎◌, ℕ, zero, suc, ◌+◌, ◌<◌, ◌≤◌, true, ◌&&◌, List, [], ◌∷◌, ◌++◌, length, map, take, drop, Some, inl, inr, refl, sym, ◌∙◌, ap, subst, arith, get_or}
+use Rattle.std.proofs.Common.{◌≡◌, ◌⊎◌, ℕ, zero, suc, ◌+◌, ◌<◌, ◌≤◌, true, ◌&&◌, List, [], ◌∷◌, ◌++◌, length, map, take, Some, inl, inr, refl, sym, ◌∙◌, ap, subst, arith, get_or}
 use Rattle.std.specs.Prelude.{Bool, slice_get, replicate, Any}
 use Rattle.std.specs.List.{list_all}
 use Rattle.std.proofs.lemmas.Bool.{and_parts, and_from}
@@ -34,7 +34,7 @@ use Rattle.dyn_steps.specs.Paths.{Shows, Relation, Acts, Passes, IsPath, IsStep,
 use Rattle.dyn_steps.specs.Joining.{Either, AreJoined}
 use Rattle.dyn_steps.proofs.Moving.{alike_self, point_more}
 use Rattle.dyn_rel.specs.Runs.{IsProgPath}
-use Rattle.dyn_rel.specs.Looking.{looked_in_turn, looked_by_any, looked_from, IsList, is_single, IsBehind, AreBehind}
+use Rattle.dyn_rel.specs.Looking.{looked_in_turn, looked_by_any, looked_from, IsList, is_single, IsBehind}
 use Rattle.dyn_steps.proofs.Growing.{all_more}
 use Rattle.dyn_steps.proofs.Following.{Then, KeepsAll, then_path}
 use Rattle.dyn_steps.proofs.JoinedPaths.{joined_path}
