@@ -18,3 +18,4 @@ pub mod FrameRows
 pub mod FrameShown
 pub mod WholeShown
 mod Rows
+pub mod FitSteps

@@ -47,7 +47,7 @@ pub as_form : (e f : Expr) (env : Env) (s : Seen) (t : Term) (m : Reading) → e
 as_form e f env s t m is gives told = subst (λ r. Tells r t m) (sym (ap (λ g. eval g env) is ∙ gives)) told
 
 -- a relation has the use of its field's kind
-same_use_is : (k : Kind) → same_use (use_of_kind k) (use_of_kind k) ≡ true
+pub same_use_is : (k : Kind) → same_use (use_of_kind k) (use_of_kind k) ≡ true
 same_use_is kind.Int = refl
 same_use_is kind.Flag = refl
 same_use_is (kind.Ref c) = refl

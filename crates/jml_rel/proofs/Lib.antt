@@ -5,3 +5,4 @@ mod Environments
 mod Gathering
 mod Objects
 mod Starting
+mod Sorting

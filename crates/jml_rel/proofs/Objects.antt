@@ -68,8 +68,8 @@ pub not_needed : (p : Posed) (heap : Heap) (o f : ℕ) (d : FieldDef) → slice_
 not_needed p heap o f d there may = missing_is p heap o f d there ∙ ap (λ b. b && gives_null (field p.unit.classes heap f (Obj o))) may
 
 -- such a field is of class kind
-pub needed_spread : (p : Posed) (kinds : Kinds) (at : Indices) (f : ℕ) (d : FieldDef) (r : RelVar) → slice_get p.unit.fields f ≡ Some d → must_be_there d.kind d.nullable ≡ true → r ≡ field_relation at f
-    → is_spread p kinds AsSet r ≡ true
+pub needed_spread : (p : Posed) (kinds : Kinds) (at : Indices) (f : ℕ) (d : FieldDef) (r : RelVar) → slice_get p.unit.fields f ≡ Some d → must_be_there d.kind d.nullable ≡ true
+    → r ≡ field_relation at f → is_spread p kinds AsSet r ≡ true
 needed_spread p kinds at f d r there must is =
     ap (is_spread p kinds AsSet) is
     ∙ ap (λ u. is_spread p kinds u (field_relation at f)) (sym (as_set d.kind (and_parts (is_class_kind d.kind) (not d.nullable) must).0))
@@ -100,7 +100,8 @@ of_own_class a p heap o = go (slice_get heap o)
     passes : ℕ → Bool
     passes c = option_map_or (class_passes a p heap o) (slice_get p.unit.classes c) true
 
-    go : (x : Option Object) → list_all (λ c. not (option_map_or (λ (x : Object). x.class == c) x false) || passes c) (numbers_below (length p.unit.classes)) ≡ option_map_or (λ (x : Object). passes x.class) x true
+    go : (x : Option Object) → list_all (λ c. not (option_map_or (λ (x : Object). x.class == c) x false) || passes c) (numbers_below (length p.unit.classes))
+        ≡ option_map_or (λ (x : Object). passes x.class) x true
     go None = all_pass (λ c. true) 0 (length p.unit.classes) (λ c from. refl)
     go (Some x) = asks_one passes x.class (length p.unit.classes) (λ past. ap (λ d. option_map_or (class_passes a p heap o) d true) (slice_get_past p.unit.classes x.class past))
 
@@ -140,7 +141,8 @@ answered_values a p heap o cs = sym (list_all-map (is_answered a) (λ (c : Claus
 
 module _ (p : Posed) (heap : Heap) (o : ℕ) where
   good_class : (d : Option ClassDef) → option_map_or (class_passes asked.Good p heap o) d true
-      ≡ (not (list_any (is_missing p heap o) (option_map_or (λ (d : ClassDef). d.fields) d [])) && list_all is_true (values_of (invariant_env p heap o) (option_map_or (λ (d : ClassDef). d.invariants) d [])))
+      ≡ (not (list_any (is_missing p heap o) (option_map_or (λ (d : ClassDef). d.fields) d []))
+      && list_all is_true (values_of (invariant_env p heap o) (option_map_or (λ (d : ClassDef). d.invariants) d [])))
   good_class None = refl
   good_class (Some d) = ap (λ b. not (list_any (is_missing p heap o) d.fields) && b) (answered_values asked.Good p heap o d.invariants)
 
@@ -159,7 +161,8 @@ module _ (p : Posed) (heap : Heap) (o : ℕ) where
   inside_class (Some d) = answered_values asked.Inside p heap o d.invariants
 
   inside_object : (x : Option Object) → option_map_or (λ (x : Object). option_map_or (class_passes asked.Inside p heap o) (slice_get p.unit.classes x.class) true) x true
-      ≡ list_all (is_answered asked.Inside) (values_of (invariant_env p heap o) (option_map_or (λ (x : Object). option_map_or (λ (d : ClassDef). d.invariants) (slice_get p.unit.classes x.class) []) x []))
+      ≡ list_all (is_answered asked.Inside) (values_of (invariant_env p heap o)
+      (option_map_or (λ (x : Object). option_map_or (λ (d : ClassDef). d.invariants) (slice_get p.unit.classes x.class) []) x []))
   inside_object None = refl
   inside_object (Some x) = inside_class (slice_get p.unit.classes x.class)
 

@@ -106,7 +106,7 @@ parameter_shown p m at s fits shown listed i None called arguments = absurd (fal
 parameter_shown p m at s fits shown listed i (Some d) called arguments = parameter_at p m at s d called shown arguments listed i (slice_get d.params i) refl
 
 -- there is no result where it would be variable 0
-no_result : (p : Posed) (at : Indices) → at.result ≡ 0 → result_of p at ≡ None
+pub no_result : (p : Posed) (at : Indices) → at.result ≡ 0 → result_of p at ≡ None
 no_result p at zero = go (method_of p)
   where
     above : (d : MethodDef) → nat_lt (length d.params) at.result ≡ false
@@ -116,7 +116,8 @@ no_result p at zero = go (method_of p)
     of d None = refl
     of d (Some k) = ap (λ b. if b then variable_at at at.result k.0 else None) (above d)
 
-    go : (d : Option MethodDef) → option_and_then (λ (d : MethodDef). option_and_then (λ (k : Kind × Bool). if nat_lt (length d.params) at.result then variable_at at at.result k.0 else None) d.result) d ≡ None
+    go : (d : Option MethodDef)
+        → option_and_then (λ (d : MethodDef). option_and_then (λ (k : Kind × Bool). if nat_lt (length d.params) at.result then variable_at at at.result k.0 else None) d.result) d ≡ None
     go None = refl
     go (Some d) = of d d.result
 

@@ -17,10 +17,10 @@ use Rattle.rel_core.specs.declared.sets.RelExpr.TheVariants as set
 use Rattle.rel_core.specs.declared.indices.Indices.{Indices}
 use Rattle.rel_core.specs.Reading.{Reading}
 use Rattle.rel_core.specs.Meaning.{holds}
-use Rattle.rel_core.specs.Uses.{Kinds, is_sorted}
+use Rattle.rel_core.specs.Uses.{Kinds, GivesStart, is_sorted}
 use Rattle.rel_core.specs.Shown.{ShowsHeap, ShowsStart, slot_relation}
 use Rattle.jml_rel.specs.declared.clauses.Three.{Three}
-use Rattle.jml_rel.specs.Places.{Point, Shows, ShowsVariable, has_slot, result_of}
+use Rattle.jml_rel.specs.Places.{Point, Shows, ShowsVariable, Sorts, SortsVariable, has_slot, result_of}
 
 -- where the clause is true, where it is not Bad, and where it is not Out
 pub record ThreeTell (s : Seen) (t : Three) (m : Reading) : Type 0 where
@@ -84,3 +84,13 @@ ExitsAreShown =
     → ShowsPosedHeap p m old s.objects → ShowsStart p m old s → ListsParameters p old
     → ShowsPosedHeap p m at heap → ShowsVariable m (result_of p at) r
     → Shows (clause_point p at old (receiver_set p old)) (exit_env p s r heap) m
+
+-- ## which variables have their kinds
+
+-- a choice of kinds that gives the variables of a start theirs gives those around a `requires` clause theirs
+abbrev pub EntriesAreSorted : Type 0
+EntriesAreSorted = (p : Posed) (kinds : Kinds) (at : Indices) → GivesStart p kinds → at.result ≡ 0 → Sorts (clause_point p at at (receiver_set p at)) kinds
+
+-- and with the result's too those around an `ensures` clause
+abbrev pub ExitsAreSorted : Type 0
+ExitsAreSorted = (p : Posed) (kinds : Kinds) (at old : Indices) → GivesStart p kinds → SortsVariable p kinds (result_of p at) → Sorts (clause_point p at old (receiver_set p old)) kinds

@@ -1,4 +1,4 @@
-ghost use Rattle.jml_rel.specs.Clauses.{EntriesAreShown, ExitsAreShown, InvariantsAreShown};
+ghost use Rattle.jml_rel.specs.Clauses.{EntriesAreShown, EntriesAreSorted, ExitsAreShown, ExitsAreSorted, InvariantsAreShown};
 
 /// A law of the definitions: a heap that is shown at given indices, with one of its objects as receiver, shows what
 /// the invariants of that object are evaluated in, at the indices of the heap alone.
@@ -16,4 +16,15 @@ pub fn entries_are_shown()
 /// at those of the end show what the `ensures` clauses are evaluated in.
 pub fn exits_are_shown()
     ensures { ExitsAreShown }
+{}
+
+/// A law of the definitions: a choice of kinds that gives the variables of a start theirs gives those at the point
+/// where a `requires` clause is translated theirs.
+pub fn entries_are_sorted()
+    ensures { EntriesAreSorted }
+{}
+
+/// A law of the definitions: so it does at the point of an `ensures` clause, where the result has its kind too.
+pub fn exits_are_sorted()
+    ensures { ExitsAreSorted }
 {}

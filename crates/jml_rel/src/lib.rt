@@ -15,4 +15,6 @@ mod walk;
 
 pub use clauses::{Three, clause_formulas};
 pub use heaps::{good_formula, inside_formula};
-pub use laws::{entries_are_shown, exits_are_shown, invariants_are_shown};
+pub use laws::{
+    entries_are_shown, entries_are_sorted, exits_are_shown, exits_are_sorted, invariants_are_shown,
+};
