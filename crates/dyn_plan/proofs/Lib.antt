@@ -19,3 +19,4 @@ pub mod FrameShown
 pub mod WholeShown
 mod Rows
 pub mod FitSteps
+pub mod EndParts
