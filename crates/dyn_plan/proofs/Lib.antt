@@ -20,3 +20,4 @@ pub mod WholeShown
 mod Rows
 pub mod FitSteps
 pub mod EndParts
+pub mod EndExprs
