@@ -4,12 +4,17 @@
 //! formula or a log that refutes it. It ends with the status of the answer.
 #![tactic(auto)]
 
+ghost use Rattle.std.specs.Prelude.{◌≡◌, IfOk, map, string_bytes};
+ghost use Rattle.taco.specs.Ends.{Ends};
+ghost use Rattle.taco_words.specs.Asked.{asked};
+
+use no_memory::NoMemory;
 use std::alloc::Global;
 use std::process::ExitCode;
 use std::rt::Env;
 use std::{env, io};
-use taco_io::{RealFiles, RealSink};
-use taco_run::run;
+use taco_io::{Files, RealFiles, RealSink, Sink};
+use taco_run::{Status, run};
 
 /// The status where the system gives no words for want of memory, and where it gives none for
 /// another cause.
@@ -41,28 +46,33 @@ fn words<R: Env + AllocGlobal>(alloc: Global, system: &R) -> Result<Vec<String>,
 }
 
 /// The same words, lent.
-fn lent<'a>(alloc: Global, words: &'a [String]) -> Result<Vec<&'a str>, u8> {
+fn lent<'a>(alloc: Global, words: &'a [String]) -> Result<Vec<&'a str>, NoMemory>
+    ensures { IfOk result (λ all. map (λ w. w.now) all.items ≡ map string_bytes words.now) }
+{
     let mut all = Vec::new(alloc);
     for word in words {
-        if all.push(word.as_str()).is_err() {
-            return Err(NO_MEMORY);
-        }
+        all.push(word.as_str())?;
     }
     Ok(all)
 }
 
-/// Does what the words ask for, with the system's files and standard output.
+/// Does what the words ask for, and answers the code with which the program ends.
+fn serve<F: Files, K: Sink>(alloc: Global, words: &[String], files: &mut F, sink: &mut K) -> u8
+    ensures { Ends (asked (map string_bytes words.now)) (F.shelf files.old) (F.shelf files.new) (K.taken sink.old) (K.taken sink.new) result }
+{
+    match lent(alloc, words) {
+        Ok(words) => run(alloc, words.as_slice(), files, sink).status.code(),
+        Err(NoMemory) => Status::NoMemory.code(),
+    }
+}
+
+/// Serves the words after the program's name, with the system's files and standard output.
 fn status(rt: &HostRuntime) -> Result<u8, u8> {
     let alloc = rt.alloc();
     let words = words(alloc, rt)?;
-    let words = lent(alloc, words.as_slice())?;
     let mut files = RealFiles::new(alloc, rt);
     let mut sink = RealSink::new(io::writer(rt));
-    Ok(
-        run(alloc, words.as_slice(), &mut files, &mut sink)
-            .status
-            .code(),
-    )
+    Ok(serve(alloc, words.as_slice(), &mut files, &mut sink))
 }
 
 fn main(rt: HostRuntime) -> ExitCode {

@@ -1,5 +1,5 @@
 -- What `read_all` and `write_all` answer.
-use Rattle.std.specs.Prelude.{◌≡◌, ℕ, ◌<◌, ◌≤◌, List, length, take, Option, IfSome, Result, Ok, Err, Vec}
+use Rattle.std.specs.Prelude.{◌≡◌, ℕ, ◌+◌, ◌<◌, ◌≤◌, List, length, take, Option, IfSome, Result, Ok, Err, Vec}
 use Rattle.std.specs.declared.alloc.Global.{Global}
 use Rattle.std.specs.Io.KnownBytes.{Appends, Consumes, IsAtEnd}
 use Rattle.taco_io.specs.declared.transfers.ReadEnd.{ReadEnd}
@@ -22,6 +22,14 @@ pub record TakesAtMost (most : ℕ) (old new : Option (List ℕ)) : Type 0 where
   pub bytes : List ℕ
   pub taken : Consumes old new bytes
   pub few : length bytes ≤ most
+
+-- how many bytes `read_all` takes at most: the one behind the limit shows that the text is too long, and a pull that fails
+-- comes before it
+abbrev pub most_taken : ℕ → Result (Vec ℕ Global) ReadEnd → ℕ
+most_taken limit (Ok bytes) = limit
+most_taken limit (Err end.TooLong) = limit + 1
+most_taken limit (Err end.Fault) = limit
+most_taken limit (Err end.NoMemory) = limit + 1
 
 -- what `read_all` answers of the rest of its slot, and what it does to the counts
 abbrev pub ReadsAll : ℕ → ℕ → Shelf → Shelf → Result (Vec ℕ Global) ReadEnd → Type 0

@@ -122,4 +122,24 @@ mod tests {
         write_all(&mut RealSink::new(io::writer(&rt)), bytes.as_slice())?;
         Ok(())
     }
+
+    #[test]
+    fn reads_two_files_by_turns(rt: HostRuntime) -> Result<(), Fail> {
+        fs::write(&rt, "first.txt", "abcd")?;
+        fs::write(&rt, "second.txt", "wxyz")?;
+        let mut piece = [0u8; 2];
+        let mut files = RealFiles::new(rt.alloc(), &rt);
+        assert_eq!(rt; files.open(0, "first.txt"), Opened::Ready);
+        assert_eq!(rt; files.pull(0, &mut piece), Pull::Got(2));
+        assert_eq!(rt; files.open(1, "second.txt"), Opened::Ready);
+        assert_eq!(rt; files.pull(0, &mut piece), Pull::Got(2));
+        assert_eq!(rt; piece.as_slice(), b"cd".as_slice());
+        let mut files = RealFiles::new(rt.alloc(), &rt);
+        assert_eq!(rt; files.open(0, "first.txt"), Opened::Ready);
+        assert_eq!(rt; files.pull(0, &mut piece), Pull::Got(2));
+        assert_eq!(rt; files.open(1, "second.txt"), Opened::Ready);
+        assert_eq!(rt; files.pull(1, &mut piece), Pull::Got(2));
+        assert_eq!(rt; piece.as_slice(), b"wx".as_slice());
+        Ok(())
+    }
 }

@@ -1,6 +1,6 @@
-ghost use Rattle.std.specs.Prelude.{◌≡◌, ℕ, ◌+◌, ◌<◌, ◌≤◌, IsSome};
+ghost use Rattle.std.specs.Prelude.{◌≡◌, ℕ, IsSome};
 ghost use Rattle.taco_io.specs.Shelf.{Stays};
-ghost use Rattle.taco_io.specs.Transfers.{ReadsAll, TakesAtMost, WritesAll};
+ghost use Rattle.taco_io.specs.Transfers.{ReadsAll, TakesAtMost, WritesAll, most_taken};
 
 use crate::files::{Files, Pull};
 use crate::sink::{Push, Sink};
@@ -33,7 +33,8 @@ pub struct WriteFault {
 }
 
 /// All that is left of an open slot, where this is at most `limit` bytes. It takes at most
-/// `limit` + 1 bytes, and time linear in the bytes that it takes, however small each pull is.
+/// `limit` + 1 bytes, and no pull follows the one that took so many: where none of these bytes
+/// failed the answer is not Fault. Time is linear in the bytes taken, however small each pull is.
 pub fn read_all<F: Files>(
     alloc: Global,
     files: &mut F,
@@ -44,7 +45,7 @@ pub fn read_all<F: Files>(
     ensures reads { ReadsAll slot limit (F.shelf files.old) (F.shelf files.new) result }
     ensures stays { Stays slot (F.shelf files.old) (F.shelf files.new) }
     ensures name { (F.shelf files.new).name slot ≡ (F.shelf files.old).name slot }
-    ensures few { TakesAtMost (limit + 1) ((F.shelf files.old).rest slot) ((F.shelf files.new).rest slot) }
+    ensures few { TakesAtMost (most_taken limit result) ((F.shelf files.old).rest slot) ((F.shelf files.new).rest slot) }
 {
     let mut bytes = Vec::new(alloc);
     let mut piece = [0u8; PIECE];

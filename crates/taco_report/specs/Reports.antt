@@ -46,8 +46,8 @@ abbrev pub no_tuples : Counts
 no_tuples = record { tuples = 0; cleared = 0; kept = 0; open_ = 0 }
 
 -- the report of a method that holds, and of one that does not
-abbrev pub holds_report : Scope → Counts → List ℕ
-holds_report scope n = line (codes "HOLDS") ++ scope_line scope ++ counts_line n
+abbrev pub holds_report : Posed → Counts → List ℕ
+holds_report p n = line (codes "HOLDS") ++ scope_line p.scope ++ counts_line n
 
 abbrev pub violated_report : Posed → Counts → Start → Part → List ℕ
 violated_report p n s b = line (codes "VIOLATED") ++ scope_line p.scope ++ counts_line n ++ broken_line p b ++ state_text p s

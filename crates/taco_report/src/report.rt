@@ -51,12 +51,12 @@ fn report_head(alloc: Global, verdict: &str, scope: Scope) -> Result<Vec<u8>, No
     Ok(out)
 }
 
-/// The report of a method that holds, where there are no tuples: `HOLDS`, the line of the scope and
-/// that of the counts.
-pub fn holds_text(alloc: Global, scope: Scope) -> Result<Vec<u8>, NoMemory>
-    ensures { IfOk result (λ text. text.items ≡ holds_report scope no_tuples) }
+/// The report of a problem whose method holds, where there are no tuples: `HOLDS`, the line of the
+/// scope and that of the counts.
+pub fn holds_text(alloc: Global, problem: &Problem) -> Result<Vec<u8>, NoMemory>
+    ensures { IfOk result (λ text. text.items ≡ holds_report problem.now no_tuples) }
 {
-    report_head(alloc, "HOLDS\n", scope)
+    report_head(alloc, "HOLDS\n", problem.scope)
 }
 
 /// The report of a method that breaks this part of its contract from this start, where there are no

@@ -233,13 +233,8 @@ fn a_replay_that_is_not_asked_about_shows_no_end(rt: HostRuntime) -> Result<(), 
 
 #[test]
 fn a_method_that_holds(rt: HostRuntime) -> Result<(), Fail> {
-    let scope = Scope {
-        objects: 3,
-        ints: 4,
-        loops: 3,
-        calls: 2,
-    };
-    let text = holds_text(rt.alloc(), scope)?;
+    let alloc = rt.alloc();
+    let text = holds_text(alloc, &problem(alloc)?)?;
     assert_eq!(rt;
         text.as_slice(),
         b"HOLDS\nscope objects 3 ints 4 loops 3 calls 2\ntuples 0 cleared 0 kept 0 open 0\n".as_slice()

@@ -1,7 +1,1 @@
-pub mod Deciding
-pub mod Joined
-pub mod Joining
-pub mod Formulas
-pub mod Searching
-pub mod Posing
-pub mod Accepted
+pub mod Done

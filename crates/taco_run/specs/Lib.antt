@@ -1,12 +1,4 @@
 pub mod Served
-pub mod TextEnds
-pub mod ProofCommand
-pub mod SatCommand
+pub mod Requests
 pub mod Headline
-pub mod Decided
-pub mod Steps
-pub mod Searches
-pub mod Problems
-pub mod ReplayCommand
-pub mod Replaying
-pub mod PrintedLogs
+pub mod Replies

@@ -1,17 +1,5 @@
-use cnf_core::Cnf;
-use derivation::Log;
+use evidence::Evidence;
 use taco_report::Status;
-
-/// What a verdict rests on.
-#[derive(Drop)]
-pub struct Evidence {
-    /// The formula that was searched.
-    pub cnf: Cnf,
-    /// The lines that were learnt, of which each follows from the formula and the lines before it.
-    pub log: Log,
-    /// The formula's variables that stand for tuples of a heap; a formula that was read has none.
-    pub tuple_vars: Vec<u32>,
-}
 
 /// What a call of `run` or `run_plain` answers.
 #[derive(Drop)]

@@ -1,26 +1,54 @@
-ghost use Rattle.std.specs.Prelude.{◌≢◌, map, codes, Some};
+ghost use Rattle.std.specs.Prelude.{◌≡◌, map, None, Some};
+ghost use Rattle.command_files.specs.Outcomes.{IsRefusing};
 ghost use Rattle.taco_report.specs.declared.status.Status.TheVariants as status;
-ghost use Rattle.taco_run.specs.Headline.{Runs};
+ghost use Rattle.taco_run.specs.Headline.{IsWritten, Runs};
+ghost use Rattle.taco_run.specs.Replies.{IsDone};
 ghost use Rattle.taco_run.specs.Served.{served, served_plainly};
-ghost use Rattle.taco_run.specs.Steps.{IsAnswered, IsEnding, IsWritten};
-ghost use Rattle.taco_report.specs.Texts.{line};
 ghost use Rattle.taco_words.specs.Asked.{asked};
 ghost use Rattle.taco_words.specs.Limits.{IsWithin};
 
 use crate::answer::Answer;
-use crate::check::check_method;
-use crate::outcome::{Outcome, Reply, or_no_memory, plain, refusal, silent};
-use crate::proof_command::check_log;
-use crate::replay_command::replay_start;
-use crate::sat_command::search_formula;
+use check_command::check_method;
+use command_files::{Outcome, or_no_memory, refusal, silent};
+use evidence::Evidence;
+use formula_commands::{Searched, check_log, search_formula};
+use replay_command::replay_start;
 use std::alloc::Global;
 use taco_io::{Files, Sink, write_all};
 use taco_report::Status;
 use taco_words::{Request, RequestFault, request_of};
 
+/// What a request comes to, with the evidence of its verdict.
+#[derive(Drop)]
+pub struct Reply {
+    pub outcome: Outcome,
+    pub proof: Option<Evidence>,
+}
+
+/// A reply without evidence.
+fn plain(outcome: Outcome) -> Reply
+    ensures { result ≡ record { outcome = outcome; proof = None } }
+{
+    Reply {
+        outcome,
+        proof: None,
+    }
+}
+
+/// The reply of a search.
+fn with_evidence(searched: Searched) -> Reply
+    ensures { result ≡ record { outcome = searched.outcome; proof = searched.evidence } }
+{
+    let Searched { outcome, evidence } = searched;
+    Reply {
+        outcome,
+        proof: evidence,
+    }
+}
+
 /// A refusal of words that are no request.
 fn usage(alloc: Global) -> Outcome
-    ensures { IsEnding status.Usage (line (codes "usage")) result }
+    ensures { IsRefusing status.Usage result }
 {
     or_no_memory(alloc, refusal(alloc, Status::Usage))
 }
@@ -28,11 +56,11 @@ fn usage(alloc: Global) -> Outcome
 /// Does a request of those that `run_plain` serves.
 fn plain_answer<F: Files>(alloc: Global, request: &Request, files: &mut F) -> Reply
     requires { IsWithin request.now }
-    ensures { IsAnswered (served_plainly (Some request.now)) (F.shelf files.old) (F.shelf files.new) result.proof result.outcome.status result.outcome.output.items }
+    ensures { IsDone (served_plainly (Some request.now)) result (F.shelf files.old) (F.shelf files.new) }
 {
     match request {
         Request::Proof(cnf, log) => plain(check_log(alloc, files, cnf, log)),
-        Request::Sat(cnf, budget) => search_formula(alloc, files, cnf, *budget),
+        Request::Sat(cnf, budget) => with_evidence(search_formula(alloc, files, cnf, *budget)),
         Request::Replay(job, state) => plain(replay_start(alloc, files, job, state)),
         Request::Check(_, _) | Request::Bounds(_, _) | Request::Stress(_) => plain(usage(alloc)),
     }
@@ -41,7 +69,7 @@ fn plain_answer<F: Files>(alloc: Global, request: &Request, files: &mut F) -> Re
 /// Does a request of those that `run` serves.
 fn answer<F: Files>(alloc: Global, request: &Request, files: &mut F) -> Reply
     requires { IsWithin request.now }
-    ensures { IsAnswered (served (Some request.now)) (F.shelf files.old) (F.shelf files.new) result.proof result.outcome.status result.outcome.output.items }
+    ensures { IsDone (served (Some request.now)) result (F.shelf files.old) (F.shelf files.new) }
 {
     match request {
         Request::Check(job, _) => plain(check_method(alloc, files, job)),
@@ -51,7 +79,7 @@ fn answer<F: Files>(alloc: Global, request: &Request, files: &mut F) -> Reply
 
 /// Does what the words ask for.
 fn answer_of<F: Files>(alloc: Global, words: &[&str], files: &mut F) -> Reply
-    ensures { IsAnswered (served (asked (map (λ w. w.now) words.now))) (F.shelf files.old) (F.shelf files.new) result.proof result.outcome.status result.outcome.output.items }
+    ensures { IsDone (served (asked (map (λ w. w.now) words.now))) result (F.shelf files.old) (F.shelf files.new) }
 {
     match request_of(alloc, words) {
         Ok(request) => answer(alloc, &request, files),
@@ -62,7 +90,7 @@ fn answer_of<F: Files>(alloc: Global, words: &[&str], files: &mut F) -> Reply
 
 /// Does what the words ask for, if `run_plain` serves it.
 fn plain_answer_of<F: Files>(alloc: Global, words: &[&str], files: &mut F) -> Reply
-    ensures { IsAnswered (served_plainly (asked (map (λ w. w.now) words.now))) (F.shelf files.old) (F.shelf files.new) result.proof result.outcome.status result.outcome.output.items }
+    ensures { IsDone (served_plainly (asked (map (λ w. w.now) words.now))) result (F.shelf files.old) (F.shelf files.new) }
 {
     match request_of(alloc, words) {
         Ok(request) => plain_answer(alloc, &request, files),
@@ -73,7 +101,6 @@ fn plain_answer_of<F: Files>(alloc: Global, words: &[&str], files: &mut F) -> Re
 
 /// Writes an output, and answers how the call ends.
 fn finish<K: Sink>(sink: &mut K, outcome: &Outcome) -> Status
-    requires { outcome.now.status ≢ status.WriteFault }
     ensures { IsWritten outcome.now.status outcome.now.output.items (K.taken sink.old) (K.taken sink.new) result }
 {
     match write_all(sink, outcome.output.as_slice()) {
@@ -89,9 +116,8 @@ fn finish<K: Sink>(sink: &mut K, outcome: &Outcome) -> Status
 /// its contract within the scope that was asked for; plan and B change nothing so far. What
 /// `run_plain` serves is done as there. `bounds` and `stress`, which are to come, are refused as
 /// every other list of words is.
-#[tactic(auto, using(crate::proofs::Joining::ran))]
 pub fn run<F: Files, K: Sink>(alloc: Global, words: &[&str], files: &mut F, sink: &mut K) -> Answer
-    ensures { Runs (served (asked (map (λ w. w.now) words.now))) result.proof result.status (F.shelf files.old) (F.shelf files.new) (K.taken sink.old) (K.taken sink.new) }
+    ensures { Runs (served (asked (map (λ w. w.now) words.now))) result (F.shelf files.old) (F.shelf files.new) (K.taken sink.old) (K.taken sink.new) }
 {
     let Reply { outcome, proof } = answer_of(alloc, words, files);
     let status = finish(sink, &outcome);
@@ -125,14 +151,13 @@ pub fn run<F: Files, K: Sink>(alloc: Global, words: &[&str], files: &mut F, sink
 /// formula; each has at most 4,194,304 bytes. Refusals in their order, for CNF and then for LOG: a
 /// read fault, `toolong`, and `badtext SLOT AT` with the place of the first fault in bytes. The cost
 /// of a check is the length of the texts and of the hinted clauses, each as often as it is named.
-#[tactic(auto, using(crate::proofs::Joining::ran))]
 pub fn run_plain<F: Files, K: Sink>(
     alloc: Global,
     words: &[&str],
     files: &mut F,
     sink: &mut K,
 ) -> Answer
-    ensures { Runs (served_plainly (asked (map (λ w. w.now) words.now))) result.proof result.status (F.shelf files.old) (F.shelf files.new) (K.taken sink.old) (K.taken sink.new) }
+    ensures { Runs (served_plainly (asked (map (λ w. w.now) words.now))) result (F.shelf files.old) (F.shelf files.new) (K.taken sink.old) (K.taken sink.new) }
 {
     let Reply { outcome, proof } = plain_answer_of(alloc, words, files);
     let status = finish(sink, &outcome);

@@ -4,26 +4,9 @@
 
 mod answer;
 mod call;
-mod check;
-mod laws;
-mod outcome;
-mod problems;
-mod proof_command;
-mod reading;
-mod replay_command;
-mod sat_command;
 
-pub use answer::{Answer, Evidence};
+pub use answer::Answer;
 pub use call::{run, run_plain};
-pub use laws::printed_logs_are_accepted;
+pub use evidence::Evidence;
 pub use taco_report::Status;
 pub use taco_words::{Job, Request, RequestFault, Schedule, Text, request_of};
-
-#[cfg(test)]
-mod proof_tests;
-#[cfg(test)]
-mod replay_tests;
-#[cfg(test)]
-mod sat_tests;
-#[cfg(test)]
-mod tests;

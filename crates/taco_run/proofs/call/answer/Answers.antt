@@ -1,16 +1,12 @@
-use Rattle.std.proofs.Common.{subst, sym}
-use Rattle.std.specs.Prelude.{Some, None}
+use Rattle.std.proofs.Common.{Option, subst}
 use Rattle.taco_io.specs.Shelf.{Shelf}
-use Rattle.taco_run.specs.declared.outcome.Reply.{Reply}
-use Rattle.taco_run.specs.Served.{served}
-use Rattle.taco_run.specs.Steps.{IsAnswered}
-use Rattle.taco_words.specs.declared.request.Request.{Request}
+use Rattle.taco_run.specs.Replies.{IsDone}
+use Rattle.taco_run.proofs.Done.{same_served}
 use Rattle.taco_run.proofs.call.answer.Goals as goal
+use Rattle.taco_words.specs.declared.request.Request.{Request}
 
-pub returns-in-Check : goal.returns-in-Check
-returns-in-Check g c =
+pub returns-in_default : goal.returns-in_default
+returns-in_default g c =
     let old : Shelf = g.F.Files.shelf c.args.files.now in
-    let new : Shelf = g.F.Files.shelf c.check_method.new.files in
-    let by_request : Request → Type 0 = λ r. IsAnswered (served (Some r)) old new None c.check_method.result.status c.check_method.result.output.items in
-    let by_reply : Reply → Type 0 = λ p. IsAnswered (served (Some c.args.request.now)) old new p.proof p.outcome.status p.outcome.output.items in
-    subst by_reply (sym c.plain.ensures) (subst by_request (sym c.in-Check.is) (c.check_method.ensures c.in-Check.field-1))
+    let new : Shelf = g.F.Files.shelf c.plain_answer.new.files in
+    subst (λ (asked : Option Request). IsDone asked c.plain_answer.result old new) (same_served c.args.request.now c.in_default.not-Check) c.plain_answer.ensures
