@@ -19,3 +19,5 @@ pub mod FrameShown
 pub mod WholeShown
 mod Rows
 pub mod FitSteps
+pub mod EndParts
+pub mod EndExprs

@@ -7,4 +7,5 @@ pub mod Statements
 pub mod Frames
 pub mod Whole
 pub mod Follows
+pub mod Endings
 pub mod Laws

@@ -9,7 +9,8 @@ use Rattle.heap_core.specs.Posed.{Posed}
 use Rattle.heap_core.specs.Outcomes.{flag, value_in, with_value, negative, opposite}
 use Rattle.heap_core.specs.Heap.{field, is_of}
 use Rattle.heap_core.specs.Eval.{eval, binary, before, bind, over, has, size}
-use Rattle.heap_core.proofs.EvalForms.{eval_flag, eval_null, eval_this, eval_result, eval_local, eval_bound, eval_read, eval_neg, eval_not, eval_bin, eval_quant, eval_old, eval_has, eval_size, eval_new, eval_call}
+use Rattle.heap_core.proofs.EvalForms.{eval_flag, eval_null, eval_this, eval_result, eval_local, eval_bound, eval_read, eval_neg, eval_not, eval_bin}
+use Rattle.heap_core.proofs.EvalForms.{eval_quant, eval_old, eval_has, eval_size, eval_new, eval_call}
 use Rattle.rel_core.proofs.Read.{heaps_are_read}
 use Rattle.clause_terms.specs.Terms.{Tells}
 use Rattle.clause_terms.proofs.Settled.{flags_settle}
