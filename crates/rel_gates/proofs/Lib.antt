@@ -27,4 +27,5 @@ pub mod NumberTests
 pub mod SameRows
 pub mod RowSteps
 pub mod ChangedRows
+pub mod ChangeNamed
 pub mod Told
