@@ -21,3 +21,4 @@ mod Rows
 pub mod FitSteps
 pub mod EndParts
 pub mod EndExprs
+pub mod EndCalls
