@@ -22,3 +22,4 @@ pub mod FitSteps
 pub mod EndParts
 pub mod EndExprs
 pub mod EndCalls
+pub mod EndStmts
