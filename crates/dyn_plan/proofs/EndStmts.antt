@@ -64,7 +64,7 @@ with_locals : (p : Posed) (k : Around) (fr : Frame) (heap : Heap) (ls : List Val
     → HoldsIn p k (record fr { locals = ls }) heap
 with_locals p k fr heap ls holds are = record { form = holds.form; unit = holds.unit; this = holds.this; locals = are }
 
-exits_then : (p : Posed) (k : Around) (fr : Frame) (heap : Heap) (x : Exit) (b : Body) → HoldsIn p k fr heap → Exits p k heap x
+pub exits_then : (p : Posed) (k : Around) (fr : Frame) (heap : Heap) (x : Exit) (b : Body) → HoldsIn p k fr heap → Exits p k heap x
     → ((ls : List Value) (n : Memory) → ComesAfter p heap n.heap → HoldsIn p k (record fr { locals = ls }) n.heap → Exits p k n.heap (b (record fr { locals = ls }) n))
     → Exits p k heap (then_body x fr b)
 exits_then p k fr heap (Goes ls m) b holds exits on =
@@ -162,17 +162,17 @@ module _ (p : Posed) (k : Around) (sort : Sorted) (c : Code) (fits : Fitting) (b
 -- ## each form
 
 module _ (p : Posed) (well : IsWell p.unit) (run : Run) (runs : RunEnds p run) where
-  expr : (a : Expr) → CodeEnds p (sort_of a) (code p run a)
+  pub expr : (a : Expr) → CodeEnds p (sort_of a) (code p run a)
   expr a = expr_ends p well run runs a
 
-  assign_exits : (i : ℕ) (a : Expr) (k : Around) (fr : Frame) (m : Memory) → HoldsIn p k fr m.heap → ComesAfter p m.heap m.heap
+  pub assign_exits : (i : ℕ) (a : Expr) (k : Around) (fr : Frame) (m : Memory) → HoldsIn p k fr m.heap → ComesAfter p m.heap m.heap
       → takes (sort_of_kind (slice_get k.locals i)) (sort_of a k) ≡ true → Exits p k m.heap (after (code p run a fr m) (set_local fr i))
   assign_exits i a k fr m holds whole fits =
       let local = local_takes (slice_get k.locals i) (sort_of a k) fits in
       exits_after p k m.heap (IsKind p local.0) (code p run a fr m) (set_local fr i) ((expr a).ends k fr m local.0 holds whole local.2)
       (λ v n after is. set_exits p k fr n i local.0 v (holds_later p k fr m.heap n.heap after holds) (later_self p m.heap n.heap after) local.1 is)
 
-  write_exits : (a c : Expr) (f : ℕ) (k : Around) (fr : Frame) (m : Memory) → HoldsIn p k fr m.heap → ComesAfter p m.heap m.heap → takes (place_sort k a f) (sort_of c k) ≡ true
+  pub write_exits : (a c : Expr) (f : ℕ) (k : Around) (fr : Frame) (m : Memory) → HoldsIn p k fr m.heap → ComesAfter p m.heap m.heap → takes (place_sort k a f) (sort_of c k) ≡ true
       → Exits p k m.heap (after (code p run a fr m) (λ v n. after (code p run c fr n) (λ u l. after (on_object (λ o. write p f o u) v l) (λ z. Goes fr.locals))))
   write_exits a c f k fr m holds whole fits =
       let field = field_takes (slice_get k.unit.fields f) (sort_of a k) (sort_of c k) fits in
@@ -191,7 +191,7 @@ module _ (p : Posed) (well : IsWell p.unit) (run : Run) (runs : RunEnds p run) w
               (object_ends p d.class l Done (λ o. write p f o u) v self (kind_later p n.heap l.heap (kind.Ref d.class) v later is) (λ o object. write_ends p well f o d u l self there object of))
               (λ z q done nothing. goes_on p k fr l.heap q.heap q held done)))
 
-  step_local_exits : (i : ℕ) (up : Bool) (k : Around) (fr : Frame) (m : Memory) → HoldsIn p k fr m.heap → ComesAfter p m.heap m.heap
+  pub step_local_exits : (i : ℕ) (up : Bool) (k : Around) (fr : Frame) (m : Memory) → HoldsIn p k fr m.heap → ComesAfter p m.heap m.heap
       → takes (sort_of_kind (slice_get k.locals i)) (Of kind.Int) ≡ true
       → Exits p k m.heap (after (gives_in (slice_get fr.locals i) m) (λ v n. after (stepped p.scope.ints up v n) (set_local fr i)))
   step_local_exits i up k fr m holds whole fits =
@@ -204,7 +204,7 @@ module _ (p : Posed) (well : IsWell p.unit) (run : Run) (runs : RunEnds p run) w
           (λ u l later of.
               set_exits p k fr l i kind.Int u (holds_later p k fr n.heap l.heap later (holds_later p k fr m.heap n.heap after holds)) (later_self p n.heap l.heap later) there of))
 
-  step_field_exits : (a : Expr) (f : ℕ) (up : Bool) (k : Around) (fr : Frame) (m : Memory) → HoldsIn p k fr m.heap → ComesAfter p m.heap m.heap → takes (place_sort k a f) (Of kind.Int) ≡ true
+  pub step_field_exits : (a : Expr) (f : ℕ) (up : Bool) (k : Around) (fr : Frame) (m : Memory) → HoldsIn p k fr m.heap → ComesAfter p m.heap m.heap → takes (place_sort k a f) (Of kind.Int) ≡ true
       → Exits p k m.heap (after (code p run a fr m) (λ v n. after (on_object (step_field p f up) v n) (λ z. Goes fr.locals)))
   step_field_exits a f up k fr m holds whole fits =
       let field = field_takes (slice_get k.unit.fields f) (sort_of a k) (Of kind.Int) fits in
@@ -219,7 +219,7 @@ module _ (p : Posed) (well : IsWell p.unit) (run : Run) (runs : RunEnds p run) w
           (object_ends p d.class n Done (step_field p f up) v self is (λ o of. step_field_ends p well f o up d n self there (kinds_same d.kind kind.Int field.value) of))
           (λ z q done nothing. goes_on p k fr n.heap q.heap q held done))
 
-  branch_exits : (a : Expr) (x y : Fitting) (b d : Body) (k : Around) (fr : Frame) (m : Memory) → StmtEnds p x b → StmtEnds p y d → HoldsIn p k fr m.heap → ComesAfter p m.heap m.heap
+  pub branch_exits : (a : Expr) (x y : Fitting) (b d : Body) (k : Around) (fr : Frame) (m : Memory) → StmtEnds p x b → StmtEnds p y d → HoldsIn p k fr m.heap → ComesAfter p m.heap m.heap
       → suits kind.Flag (sort_of a k) ≡ true → x k ≡ true → y k ≡ true → Exits p k m.heap (after_test (code p run a fr m) (λ t n. if t then b fr n else d fr n))
   branch_exits a x y b d k fr m first second holds whole test taken other =
       exits_after p k m.heap (IsKind p kind.Flag) (code p run a fr m) (on_branch (λ t n. if t then b fr n else d fr n)) ((expr a).ends k fr m kind.Flag holds whole test)
@@ -232,7 +232,7 @@ module _ (p : Posed) (well : IsWell p.unit) (run : Run) (runs : RunEnds p run) w
       by (Obj o) n around self = tt
       by (Num z) n around self = tt
 
-  return_exits : (a : Option Expr) (k : Around) (fr : Frame) (m : Memory) → HoldsIn p k fr m.heap → ComesAfter p m.heap m.heap → returns k a ≡ true
+  pub return_exits : (a : Option Expr) (k : Around) (fr : Frame) (m : Memory) → HoldsIn p k fr m.heap → ComesAfter p m.heap m.heap → returns k a ≡ true
       → Exits p k m.heap (give_back (option_map (code p run) a) fr m)
   return_exits None k fr m holds whole fits = (whole, by k.result fits)
     where
@@ -253,7 +253,7 @@ module _ (p : Posed) (well : IsWell p.unit) (run : Run) (runs : RunEnds p run) w
       by true s is = refl
       by false s is = absurd (false≢true is)
 
-  run_exits : (c : Call) (k : Around) (fr : Frame) (m : Memory) → HoldsIn p k fr m.heap → ComesAfter p m.heap m.heap → is_call (sort_of (e.Call c) k) ≡ true
+  pub run_exits : (c : Call) (k : Around) (fr : Frame) (m : Memory) → HoldsIn p k fr m.heap → ComesAfter p m.heap m.heap → is_call (sort_of (e.Call c) k) ≡ true
       → Exits p k m.heap (after (call_of p run c fr m) (λ v. Goes fr.locals))
   run_exits c k fr m holds whole fits =
       let x = out-Call c in

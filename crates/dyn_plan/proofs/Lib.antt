@@ -23,3 +23,4 @@ pub mod EndParts
 pub mod EndExprs
 pub mod EndCalls
 pub mod EndStmts
+pub mod EndRuns
