@@ -24,3 +24,5 @@ pub mod EndExprs
 pub mod EndCalls
 pub mod EndStmts
 pub mod EndRuns
+pub mod FitPlaces
+pub mod FitExprs
