@@ -80,7 +80,7 @@ abbrev TargetEnds : Posed → Run → Option Expr → Type 0
 TargetEnds p run None = Unit {0}
 TargetEnds p run (Some a) = CodeEnds p (sort_of a) (code p run a)
 
-object_suits : (class : ℕ) (s : Sort) → is_object_of class s ≡ true → suits (kind.Ref class) s ≡ true
+pub object_suits : (class : ℕ) (s : Sort) → is_object_of class s ≡ true → suits (kind.Ref class) s ≡ true
 object_suits class (Of k) is = is
 object_suits class NullOnly is = absurd (false≢true is)
 object_suits class NoValue is = absurd (false≢true is)

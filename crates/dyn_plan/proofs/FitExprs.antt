@@ -146,7 +146,7 @@ module _ (p : Posed) (args : List Kind) (g : Ground) (well : IsWell g.unit) (sam
   turned : (r : ℕ) → Spot args g r kind.Flag → Fit p (Spot args g) (l.Do (Same r r (flag_of g false)) ∷ [])
   turned r spot = fit_do p (Spot args g) (Same r r (flag_of g false)) (spot, (kind.Flag, spot, flag_spot args g false))
 
-  then_turned : (a : Act) (r : ℕ) → Spot args g r kind.Flag → FitAct p (Spot args g) a → Fit p (Spot args g) (l.Do a ∷ l.Do (Same r r (flag_of g false)) ∷ [])
+  pub then_turned : (a : Act) (r : ℕ) → Spot args g r kind.Flag → FitAct p (Spot args g) a → Fit p (Spot args g) (l.Do a ∷ l.Do (Same r r (flag_of g false)) ∷ [])
   then_turned a r spot fit = fit_append p (Spot args g) (l.Do a ∷ []) (l.Do (Same r r (flag_of g false)) ∷ []) (fit_do p (Spot args g) a fit) (turned r spot)
 
   -- both operands of a kind, and the operation
@@ -173,7 +173,7 @@ module _ (p : Posed) (args : List Kind) (g : Ground) (well : IsWell g.unit) (sam
       }
 
   -- the right operand as a truth value
-  truth_fits : (t : Sorted) (c : Low) (k : Around) (f : Spots) (b : ℕ) → ExprFits p args g t c → FrameFits args g k f → IsRow g b → suits kind.Flag (t k) ≡ true
+  pub truth_fits : (t : Sorted) (c : Low) (k : Around) (f : Spots) (b : ℕ) → ExprFits p args g t c → FrameFits args g k f → IsRow g b → suits kind.Flag (t k) ≡ true
       → Fit p (Spot args g) (as_truth g f (b + 1) (c.low kind.Flag f b))
   truth_fits t c k f b claim frame row is =
       let y : Lowered = c.low kind.Flag f b in
@@ -183,7 +183,7 @@ module _ (p : Posed) (args : List Kind) (g : Ground) (well : IsWell g.unit) (sam
       (guarded_fits p args g f y.throws (l.Do (Same (b + 1) y.place (flag_of g true)) ∷ []) frame.done act)
 
   -- the left operand decides between two ways
-  short_fits : (s : Sorted) (a : Low) (taken other : List Plan) (k : Around) (f : Spots) (b : ℕ) → ExprFits p args g s a → FrameFits args g k f → IsRow g b → suits kind.Flag (s k) ≡ true
+  pub short_fits : (s : Sorted) (a : Low) (taken other : List Plan) (k : Around) (f : Spots) (b : ℕ) → ExprFits p args g s a → FrameFits args g k f → IsRow g b → suits kind.Flag (s k) ≡ true
       → Fit p (Spot args g) taken → Fit p (Spot args g) other
       → Fit p (Spot args g) ((a.low kind.Flag f b).steps ++ guarded f (a.low kind.Flag f b).throws (l.If (a.low kind.Flag f b).place taken other ∷ []))
   short_fits s a taken other k f b claim frame row is first second =

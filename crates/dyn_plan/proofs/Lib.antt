@@ -26,3 +26,4 @@ pub mod EndStmts
 pub mod EndRuns
 pub mod FitPlaces
 pub mod FitExprs
+pub mod FitCalls
