@@ -55,11 +55,11 @@ pub record ArgumentsFit (p : Posed) (args : List Kind) (g : Ground) (x : Argumen
   pub places : AllAt args g x.places ks
   pub row : IsRow g x.free
 
-abbrev TargetAt : List Kind → Ground → MethodDef → Option ℕ → Type 0
+abbrev pub TargetAt : List Kind → Ground → MethodDef → Option ℕ → Type 0
 TargetAt args g d None = d.fixed ≡ true
 TargetAt args g d (Some x) = Spot args g x (kind.Ref d.class)
 
-record TargetFits (p : Posed) (args : List Kind) (g : Ground) (d : MethodDef) (x : Target) : Type 0 where
+pub record TargetFits (p : Posed) (args : List Kind) (g : Ground) (d : MethodDef) (x : Target) : Type 0 where
   pub steps : Fit p (Spot args g) x.steps
   pub place : TargetAt args g d x.place
   pub row : IsRow g x.free
@@ -152,7 +152,7 @@ module _ (p : Posed) (args : List Kind) (g : Ground) (well : IsWell g.unit) (sam
     MaybeFits None = Unit {0}
     MaybeFits (Some a) = ExprFits p args g (sort_of a) (low_expr g inline a)
 
-    arguments_fit : (qs : List ParamDef) (as_ : List Expr) (t : Bool) (k : Around) (f : Spots) (b : ℕ) → EachFits as_ → FrameFits args g k f → IsRow g b
+    pub arguments_fit : (qs : List ParamDef) (as_ : List Expr) (t : Bool) (k : Around) (f : Spots) (b : ℕ) → EachFits as_ → FrameFits args g k f → IsRow g b
         → list_all (is_kind_of g.unit) (map (λ q. q.kind) qs) ≡ true → are_arguments k qs (map sort_of as_) ≡ true
         → ArgumentsFit p args g (arguments_low g (map (low_expr g inline) as_) (map (λ q. q.kind) qs) t f b) (map (λ q. q.kind) qs)
     arguments_fit [] [] t k f b claims frame row known is = record { steps = fit_none p (Spot args g); places = tt; row = row }
@@ -171,7 +171,7 @@ module _ (p : Posed) (args : List Kind) (g : Ground) (well : IsWell g.unit) (sam
           row = rest.row;
         }
 
-    target_fits : (d : MethodDef) (t : Option Expr) (k : Around) (f : Spots) (b : ℕ) → MaybeFits t → FrameFits args g k f → IsRow g b → nat_lt d.class (length g.unit.classes) ≡ true
+    pub target_fits : (d : MethodDef) (t : Option Expr) (k : Around) (f : Spots) (b : ℕ) → MaybeFits t → FrameFits args g k f → IsRow g b → nat_lt d.class (length g.unit.classes) ≡ true
         → is_target_of k d t ≡ true → TargetFits p args g d (target_low g (option_map (low_expr g inline) t) d.class f b)
     target_fits d None k f b claim frame row known is = record { steps = fit_none p (Spot args g); place = is; row = row }
     target_fits d (Some a) k f b claim frame row known is =
@@ -181,7 +181,7 @@ module _ (p : Posed) (args : List Kind) (g : Ground) (well : IsWell g.unit) (sam
 
     -- ## calls
 
-    receiver_at : (d : MethodDef) (o : Option ℕ) → TargetAt args g d o → (c : ℕ) → receiver_of d.fixed d.class ≡ Some c → ReceiverAt args g c o
+    pub receiver_at : (d : MethodDef) (o : Option ℕ) → TargetAt args g d o → (c : ℕ) → receiver_of d.fixed d.class ≡ Some c → ReceiverAt args g c o
     receiver_at d o at c is = by d.fixed refl o at is
       where
         by : (fixed : Bool) → d.fixed ≡ fixed → (o : Option ℕ) → TargetAt args g d o → receiver_of fixed d.class ≡ Some c → ReceiverAt args g c o
@@ -191,11 +191,11 @@ module _ (p : Posed) (args : List Kind) (g : Ground) (well : IsWell g.unit) (sam
             let equal : d.class ≡ c = cc in
             record { place = x; there = refl; spot = subst (λ z. Spot args g x (kind.Ref z)) equal at }
 
-    value_fits : (wanted : Bool) (r : ℕ) (w : Kind) (x : Lowered) → Spot args g r w → FitsAt p args g x w → Fit p (Spot args g) (with_value_at wanted r x)
+    pub value_fits : (wanted : Bool) (r : ℕ) (w : Kind) (x : Lowered) → Spot args g r w → FitsAt p args g x w → Fit p (Spot args g) (with_value_at wanted r x)
     value_fits true r w x spot fits = fit_append p (Spot args g) x.steps (l.Do (Copy r x.place) ∷ []) fits.steps (fit_do p (Spot args g) (Copy r x.place) (w, spot, fits.place))
     value_fits false r w x spot fits = fits.steps
 
-    entered_fits : (d : MethodDef) (k : Around) (f : Spots) (b : ℕ) (o : Option ℕ) (steps : List Plan) → FrameFits args g k f → IsRow g b → nat_lt d.class (length g.unit.classes) ≡ true
+    pub entered_fits : (d : MethodDef) (k : Around) (f : Spots) (b : ℕ) (o : Option ℕ) (steps : List Plan) → FrameFits args g k f → IsRow g b → nat_lt d.class (length g.unit.classes) ≡ true
         → TargetAt args g d o → Fit p (Spot args g) steps → Fit p (Spot args g) (entered_low g f b d.class o steps)
     entered_fits d k f b None steps frame row known at fits = fits
     entered_fits d k f b (Some x) steps frame row known at fits = through_fits p args g f b d.class x steps frame.done frame.thrown row known at fits

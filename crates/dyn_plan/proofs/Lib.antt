@@ -27,3 +27,4 @@ pub mod EndRuns
 pub mod FitPlaces
 pub mod FitExprs
 pub mod FitCalls
+pub mod FitAll
