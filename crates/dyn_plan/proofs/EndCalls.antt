@@ -147,7 +147,7 @@ pub record CallSorted (k : Around) (t : Option Expr) (as_ : List Expr) (o : Opti
   pub there : o ≡ Some method
   pub fits : (is_target_of k method t && are_arguments k method.params (map sort_of as_)) ≡ true
 
-called_suits : (k : Around) (t : Option Expr) (as_ : List Expr) (o : Option MethodDef) (w : Kind) → suits w (called_as k t as_ o) ≡ true
+pub called_suits : (k : Around) (t : Option Expr) (as_ : List Expr) (o : Option MethodDef) (w : Kind) → suits w (called_as k t as_ o) ≡ true
     → (c : CallSorted k t as_ o) × (suits w (result_sort c.method.result) ≡ true)
 called_suits k t as_ None w is = absurd (false≢true is)
 called_suits k t as_ (Some d) w is =

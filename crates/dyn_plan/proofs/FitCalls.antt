@@ -29,7 +29,7 @@ use Rattle.dyn_plan.proofs.FitExprs.{ExprFits, common_suits, both_fit, truth_fit
 use Rattle.dyn_plan.proofs.EndParts.{kinds_same, where_suits, in_clause_never}
 use Rattle.dyn_plan.proofs.EndCalls.{object_suits}
 
-as_wanted : (p : Posed) (args : List Kind) (g : Ground) (x : Lowered) (w r : Kind) → w ≡ r → FitsAt p args g x r → FitsAt p args g x w
+pub as_wanted : (p : Posed) (args : List Kind) (g : Ground) (x : Lowered) (w r : Kind) → w ≡ r → FitsAt p args g x r → FitsAt p args g x w
 as_wanted p args g x w r same fits = subst (FitsAt p args g x) (sym same) fits
 
 -- each variable has its kind

@@ -89,6 +89,7 @@ pub record FrameFits (args : List Kind) (g : Ground) (k : Around) (f : Spots) : 
   pub gives : (r : Kind) → k.result ≡ Some r → f.gives ≡ r
   pub known : (r : Kind) → k.result ≡ Some r → is_kind_of g.unit r ≡ true
   pub base : IsRow g f.base
+  pub bound : k.bound ≡ []
   pub some_class : nat_lt 0 (length g.unit.classes) ≡ true
 
 -- the steps fit, and the value stands where one of this kind does

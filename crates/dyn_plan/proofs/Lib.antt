@@ -28,3 +28,4 @@ pub mod FitPlaces
 pub mod FitExprs
 pub mod FitCalls
 pub mod FitAll
+pub mod FitForms
