@@ -21,3 +21,11 @@ mod Rows
 pub mod FitSteps
 pub mod EndParts
 pub mod EndExprs
+pub mod EndCalls
+pub mod EndStmts
+pub mod EndRuns
+pub mod FitPlaces
+pub mod FitExprs
+pub mod FitCalls
+pub mod FitAll
+pub mod FitForms

@@ -69,7 +69,11 @@ common_kind None other = kind_or other (Ref 0)
 abbrev pub operand_kind : Op → Spots → Low → Low → Kind
 operand_kind op.Eq f a c = common_kind (a.kind f) (c.kind f)
 operand_kind op.Ne f a c = common_kind (a.kind f) (c.kind f)
-operand_kind o f a c = kind_of_op o
+operand_kind op.And f a c = Flag
+operand_kind op.Or f a c = Flag
+operand_kind op.Implies f a c = Flag
+operand_kind op.Iff f a c = Flag
+operand_kind o f a c = Int
 
 -- ## operators
 

@@ -6,6 +6,6 @@ mod laws;
 mod plan;
 mod program;
 
-pub use laws::{plans_do_as_code, plans_run_as_programs};
+pub use laws::{executions_end_whole, plans_do_as_code, plans_run_as_programs};
 pub use plan::Plan;
 pub use program::program_of;

@@ -5,6 +5,7 @@ pub mod Growing
 pub mod UseForms
 pub mod Fitting
 pub mod NumberUses
+pub mod Depths
 pub mod ClassBits
 pub mod FormulaUses
 pub mod FormulaFits
@@ -26,4 +27,5 @@ pub mod NumberTests
 pub mod SameRows
 pub mod RowSteps
 pub mod ChangedRows
+pub mod ChangeNamed
 pub mod Told

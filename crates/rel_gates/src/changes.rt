@@ -1,18 +1,36 @@
 //! Whether a relation is another that changes at some objects.
 
-ghost use Rattle.std.specs.Prelude.{◌≡◌, ◌*◌, All, length, IfOk, if◌then◌else◌};
+ghost use Rattle.std.specs.Prelude.{◌≡◌, ◌+◌, ◌*◌, [], All, length, IfOk, IsTrue, if◌then◌else◌};
+ghost use Rattle.std.specs.Option.{option_map_or};
 ghost use Rattle.gate_core.specs.Circuit.{value, IsOf, Keeps};
 ghost use Rattle.gate_arith.specs.Operations.{IsTruth};
 ghost use Rattle.gate_sets.specs.Lists.{at};
 ghost use Rattle.gate_sets.specs.Shapes.{are_same};
+ghost use Rattle.rel_core.specs.declared.sets.RelExpr.{RelExpr};
+ghost use Rattle.rel_core.specs.declared.formula.Formula.TheVariants.{Changed};
+ghost use Rattle.rel_gates.specs.Naming.{are_named, changed_uses, spread_use};
+ghost use Rattle.rel_gates.specs.Meant.{Stand, AreSet, IsTruthOf};
 ghost use Rattle.rel_gates.specs.Changes.{rows_change};
 
 use crate::bits::row;
+use crate::members::gates_for;
+use crate::named::Relations;
+use crate::widths::spread_width;
 use gate_arith::both;
 use gate_core::{Gate, Gates};
 use gate_sets::{chosen, same_places};
+use heap_core::{Problem, well_posed};
 use no_memory::NoMemory;
+use rel_core::RelVar;
 use std::alloc::Global;
+
+/// A relation, what it has at some objects, and what it was.
+#[derive(Clone, Copy)]
+pub(crate) struct Change {
+    pub(crate) new: RelVar,
+    pub(crate) given: RelVar,
+    pub(crate) old: RelVar,
+}
 
 /// Whether a row is the given one where a gate is true, and else the old one.
 #[tactic(auto, using(gate_core::proofs::Values::growing))]
@@ -42,7 +60,7 @@ fn row_changes(
 /// Whether rows, one for each object, are the given row at those objects whose gates are true, and else
 /// the old rows.
 #[tactic(auto, using(gate_core::proofs::Values::growing))]
-pub(crate) fn rows_changed(
+fn rows_changed(
     alloc: Global,
     gates: &mut Gates,
     members: &[Gate],
@@ -69,4 +87,36 @@ pub(crate) fn rows_changed(
         every = both(gates, every, here)?;
     }
     Ok(every)
+}
+
+/// Whether a relation has at each object of a set what another has at place 0, and else what a third
+/// has.
+pub(crate) fn changed_gate(
+    alloc: Global,
+    gates: &mut Gates,
+    problem: &Problem,
+    relations: &Relations,
+    set: &[Gate],
+    change: Change,
+) -> Result<Gate, NoMemory>
+    requires stand { Stand gates.old relations.now }
+    requires set { All (IsOf gates.old) set.now }
+    requires wide { length set.now ≡ problem.now.scope.objects + 1 }
+    requires named { IsTrue (are_named relations.now (option_map_or (changed_uses problem.now change.new change.given change.old) (spread_use problem.now change.new) [])) }
+    ensures changed { IfOk result (λ gate. (e : RelExpr) → AreSet problem.now relations.now gates.old e set.now
+        → IsTruthOf problem.now relations.now gates.new (Changed change.new e change.given change.old) gate) }
+    ensures keeps { Keeps gates.old gates.new }
+{
+    well_posed(problem);
+    match spread_width(problem, change.new.what) {
+        Some(width) => {
+            let new = gates_for(relations, change.new);
+            let given = row(gates_for(relations, change.given), width, 0);
+            let old = gates_for(relations, change.old);
+            let (_, members) = set.split_at(1);
+            let gate = rows_changed(alloc, gates, members, new, given, old)?;
+            Ok(gate)
+        }
+        None => Ok(gates.constant(false)),
+    }
 }

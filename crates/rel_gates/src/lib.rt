@@ -10,6 +10,7 @@ mod limits;
 mod members;
 mod named;
 mod naming;
+mod number_walk;
 mod numbers;
 mod truths;
 mod tuples;
