@@ -124,7 +124,8 @@ changed_truth p es old new e r given before u set members new_rows given_rows gi
       let parts = and_parts (is_sorted_set p kinds e) (can_change p kinds r given before) (sym (sorted_changed p kinds r e given before) ∙ sorted) in
       let change = change_sorted p kinds u r given before its parts.1 in
       let inside = has_object (set_of e m) in
-      let agree = λ (s : RelVar) (rows : List ℕ) (found : gates_of es s ≡ Some rows). subst (λ gs. AgreesWith p kinds t gs m s) found (agree_to p kinds t es m s (earlier.agrees s (ap is_some found))) in
+      let agree = λ (s : RelVar) (rows : List ℕ) (found : gates_of es s ≡ Some rows). subst (λ gs. AgreesWith p kinds t gs m s) found (agree_to p kinds t es m s
+      (earlier.agrees s (ap is_some found))) in
       truth.value_is inputs
       ∙ ap (λ n. list_all (row_changes w t members new_rows given_row old_rows) (range_with_len 0 n)) long
       ∙ all_alike (row_changes w t members new_rows given_row old_rows) (λ o. if inside o then same_at m r o given 0 else same_at m r o before o) 0 p.scope.objects (λ o under.

@@ -104,7 +104,8 @@ variable_number_is p es nodes r rows there found wide some stand constant = reco
       let agree = (agree_to p kinds (value inputs nodes) es m r (seen.agrees r (ap is_some found))).1 0 in
       let read = number_read p kinds m r (value inputs nodes) rows 0 (subst (λ gs. m.number r 0 ≡ number_shown p kinds (value inputs nodes) gs r 0) found agree)
       (variable_place p kinds AsNumber r is some) in
-      let row : bits inputs nodes rows ≡ row_bits (value inputs nodes) p.scope.ints rows 0 = row_same (value inputs nodes) rows rows p.scope.ints 0 wide (λ i below. (let same : i ≡ 0 * p.scope.ints + i = omega arith in ap (λ k. get_or rows k 0) same)) in
+      let row : bits inputs nodes rows ≡ row_bits (value inputs nodes) p.scope.ints rows 0 = row_same (value inputs nodes) rows rows p.scope.ints 0 wide (λ i below.
+      (let same : i ≡ 0 * p.scope.ints + i = omega arith in ap (λ k. get_or rows k 0) same)) in
       always nodes rows there inputs (m.number r 0) (constant.value_is inputs) (ap signed row ∙ read) ∙ sym (number_var r m);
 }
 
@@ -247,7 +248,8 @@ constant_number_is p es nodes z low top constants last there wide low_is are sig
     by inputs true fits =
         let there_is : low ≡ Some (low_part top z) = low_is ∙ ap (λ b. if b then Some (low_part top z) else None) fits in
         ap (λ o. if is_some o then Some (shown nodes (constants ++ last ∷ []) inputs) else None) there_is
-        ∙ ap Some (signed_constant nodes p.scope.ints top z constants last inputs wide fits (subst (λ o. AreTruths nodes top (λ inputs i. digit (unwrap_or o 0) i) constants) there_is are) (sign_is.value_is inputs))
+        ∙ ap Some (signed_constant nodes p.scope.ints top z constants last inputs wide fits (subst (λ o. AreTruths nodes top (λ inputs i. digit (unwrap_or o 0) i) constants) there_is are)
+        (sign_is.value_is inputs))
         ∙ sym (ap (λ b. if b then Some z else None) fits)
     by inputs false lacks =
         let none : low ≡ None = low_is ∙ ap (λ b. if b then Some (low_part top z) else None) lacks in

@@ -43,4 +43,5 @@ row_changed old middle third width count o members news given olds row_new row_o
     (λ i under.
     ap (λ b. if b then at middle given inputs i else at middle row_old inputs i) (read_kept old middle members inputs o inside keeps of_members (omega (arith, many, below)) is)
     ∙ ap (λ b. if value inputs old (get_or members o 0) then b else at middle row_old inputs i) (keeps.values inputs (get_or given i 0) (of_given i 0 (omega (arith, under, wide))))
-    ∙ ap (λ b. if value inputs old (get_or members o 0) then value inputs old (get_or given i 0) else b) (row_now old middle width o count olds row_old inputs i keeps of_olds below long_olds same_old under)))
+    ∙ ap (λ b. if value inputs old (get_or members o 0) then value inputs old (get_or given i 0)
+    else b) (row_now old middle width o count olds row_old inputs i keeps of_olds below long_olds same_old under)))

@@ -269,7 +269,8 @@ sets_tell p kinds m truth of r s rows others o q first second =
 no_references : (p : Posed) (kinds : Kinds) (m : Reading) (u : Use) (r s : RelVar) (o q : ℕ) → IsOf p kinds m → has_use p kinds u r.what ≡ true → has_use p kinds u s.what ≡ true
     → same_use u AsSet ≡ false → same_use u u ≡ true → list_all (λ v. same_flag (m.refs r o v) (m.refs s q v)) (references m.objects) ≡ true
 no_references p kinds m u r s o q of mine its other one =
-    refs_none m r s o q (references m.objects) (λ v. no_refs p kinds m r o v of (no_place p kinds u AsSet r o mine other one)) (λ v. no_refs p kinds m s q v of (no_place p kinds u AsSet s q its other one))
+    refs_none m r s o q (references m.objects) (λ v. no_refs p kinds m r o v of (no_place p kinds u AsSet r o mine other one)) (λ v. no_refs p kinds m s q v of
+    (no_place p kinds u AsSet s q its other one))
 
 no_flags : (p : Posed) (kinds : Kinds) (m : Reading) (u : Use) (r s : RelVar) (o q : ℕ) → IsOf p kinds m → has_use p kinds u r.what ≡ true → has_use p kinds u s.what ≡ true
     → same_use u AsFlag ≡ false → same_use u u ≡ true → same_flag (m.flag r o) (m.flag s q) ≡ true
@@ -281,9 +282,11 @@ numbers_tell p kinds m truth wide of r s rows others o q first second =
     let mine = place_use p kinds AsNumber r o first.place in
     let its = place_use p kinds AsNumber s q second.place in
     let number_is : m.number r o ≡ signed (row_bits truth p.scope.ints rows o) =
-    first.agree.1 o ∙ ap (λ b. if b then signed (row_bits truth p.scope.ints rows o) else (if has_place p kinds AsClass r o then pos (number (row_bits truth (class_bits p) rows o)) else pos 0)) first.place in
+    first.agree.1 o ∙ ap (λ b. if b then signed (row_bits truth p.scope.ints rows o) else
+    (if has_place p kinds AsClass r o then pos (number (row_bits truth (class_bits p) rows o)) else pos 0)) first.place in
     let other_is : m.number s q ≡ signed (row_bits truth p.scope.ints others q) =
-    second.agree.1 q ∙ ap (λ b. if b then signed (row_bits truth p.scope.ints others q) else (if has_place p kinds AsClass s q then pos (number (row_bits truth (class_bits p) others q)) else pos 0)) second.place in
+    second.agree.1 q ∙ ap (λ b. if b then signed (row_bits truth p.scope.ints others q) else
+    (if has_place p kinds AsClass s q then pos (number (row_bits truth (class_bits p) others q)) else pos 0)) second.place in
     let test = int_eq (m.number r o) (m.number s q) in
     signed_test p.scope.ints (in_row truth p.scope.ints rows o) (in_row truth p.scope.ints others q) wide
     ∙ ap (λ z. int_eq z (signed (row_bits truth p.scope.ints others q))) (sym number_is) ∙ ap (int_eq (m.number r o)) (sym other_is)

@@ -200,13 +200,15 @@ one_tuple_more before middle new upper wanted count es fs all longer x first at 
                 gates = old.gates;
                 there = ap (λ ns. gates_of ns y.0) one.named ∙ found_first es ((x.0, one.gates) ∷ []) y.0 old.gates old.there;
                 same = λ j inside. old.same j inside
-                    ∙ sym (ap (λ gs. get_or gs (total (take i wanted) + j) 0) one.behind ∙ get_or_append_left all one.gates 0 (total (take i wanted) + j) (omega (arith, inside, fits, first.inputs.wide)));
+                    ∙ sym (ap (λ gs. get_or gs (total (take i wanted) + j) 0) one.behind ∙ get_or_append_left all one.gates 0 (total (take i wanted) + j)
+                    (omega (arith, inside, fits, first.inputs.wide)));
               }
           | inr past ↦
               let last : i ≡ count = omega (arith, less, past) in
               let both : Some x ≡ Some y = sym at ∙ ap (slice_get wanted) (sym last) ∙ there in
               let equal : x ≡ y = cc in
-              subst (λ k. AreGatesFrom longer (total (take k wanted)) y.1 (gates_of fs y.0)) (sym last) (subst (λ u. AreGatesFrom longer (total (take count wanted)) u.1 (gates_of fs u.0)) equal (record {
+              subst (λ k. AreGatesFrom longer (total (take k wanted)) y.1 (gates_of fs y.0)) (sym last) (subst (λ u. AreGatesFrom longer (total (take count wanted)) u.1 (gates_of fs u.0))
+              equal (record {
                 gates = one.gates;
                 there = ap (λ ns. gates_of ns x.0) one.named ∙ found_last es ((x.0, one.gates) ∷ []) x.0 (none apart) ∙ ap (λ b. if b then Some one.gates else None) (same_relation-refl x.0);
                 same = λ j inside. sym (ap (λ gs. get_or gs (total (take count wanted) + j) 0) one.behind ∙ behind_all j);

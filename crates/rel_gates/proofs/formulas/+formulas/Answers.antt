@@ -39,20 +39,26 @@ pub formula_gate-set_gates-requires-in-Subset-2-clause-named : goal.formula_gate
 formula_gate-set_gates-requires-in-Subset-2-clause-named t c =
     let p = c.args.problem.now in
     let es = c.args.relations.now in
-    (subst (λ e. are_named es (set_uses p e) ≡ true) (sym c.get-in-Subset-2.ensures) (both_named es (uses p c.args.formula.now) (set_uses p c.in-Subset.a) (set_uses p c.in-Subset.b) c.requires.named (ap (uses p) c.in-Subset.is ∙ uses_subset p c.in-Subset.a c.in-Subset.b)).1)
+    (subst (λ e. are_named es (set_uses p e) ≡ true) (sym c.get-in-Subset-2.ensures)
+    (both_named es (uses p c.args.formula.now) (set_uses p c.in-Subset.a) (set_uses p c.in-Subset.b) c.requires.named
+    (ap (uses p) c.in-Subset.is ∙ uses_subset p c.in-Subset.a c.in-Subset.b)).1)
 
 pub formula_gate-set_gates-requires-in-IsClass-clause-named : goal.formula_gate-set_gates-requires-in-IsClass-clause-named
 formula_gate-set_gates-requires-in-IsClass-clause-named t c =
     let p = c.args.problem.now in
     let es = c.args.relations.now in
-    (subst (λ e. are_named es (set_uses p e) ≡ true) (sym c.get-in-IsClass.ensures) (both_named es (uses p c.args.formula.now) (set_uses p c.in-IsClass.set) (wanted_each p AsClass c.in-IsClass.relation ∷ []) c.requires.named (ap (uses p) c.in-IsClass.is ∙ uses_is_class p c.in-IsClass.set c.in-IsClass.class c.in-IsClass.relation)).0)
+    (subst (λ e. are_named es (set_uses p e) ≡ true) (sym c.get-in-IsClass.ensures)
+    (both_named es (uses p c.args.formula.now) (set_uses p c.in-IsClass.set) (wanted_each p AsClass c.in-IsClass.relation ∷ []) c.requires.named
+    (ap (uses p) c.in-IsClass.is ∙ uses_is_class p c.in-IsClass.set c.in-IsClass.class c.in-IsClass.relation)).0)
 
 pub formula_gate-gates_for-rows-requires : goal.formula_gate-gates_for-rows-requires
 formula_gate-gates_for-rows-requires t c =
     let p = c.args.problem.now in
     let es = c.args.relations.now in
     let r = c.in-IsClass.relation in
-    let named : is_named_for es (wanted_each p AsClass r) ≡ true = one_named es (wanted_each p AsClass r ∷ []) (wanted_each p AsClass r) (both_named es (uses p c.args.formula.now) (set_uses p c.in-IsClass.set) (wanted_each p AsClass c.in-IsClass.relation ∷ []) c.requires.named (ap (uses p) c.in-IsClass.is ∙ uses_is_class p c.in-IsClass.set c.in-IsClass.class c.in-IsClass.relation)).1 refl in
+    let named : is_named_for es (wanted_each p AsClass r) ≡ true = one_named es (wanted_each p AsClass r ∷ []) (wanted_each p AsClass r) (both_named es (uses p c.args.formula.now)
+    (set_uses p c.in-IsClass.set) (wanted_each p AsClass c.in-IsClass.relation ∷ []) c.requires.named (ap (uses p)
+    c.in-IsClass.is ∙ uses_is_class p c.in-IsClass.set c.in-IsClass.class c.in-IsClass.relation)).1 refl in
     is_named_by es r (p.scope.objects * class_bits p) named
 
 pub formula_gate-class_gate-requires-clause-long : goal.formula_gate-class_gate-requires-clause-long
@@ -60,44 +66,59 @@ formula_gate-class_gate-requires-clause-long t c =
     let p = c.args.problem.now in
     let es = c.args.relations.now in
     let r = c.in-IsClass.relation in
-    let named : is_named_for es (wanted_each p AsClass r) ≡ true = one_named es (wanted_each p AsClass r ∷ []) (wanted_each p AsClass r) (both_named es (uses p c.args.formula.now) (set_uses p c.in-IsClass.set) (wanted_each p AsClass c.in-IsClass.relation ∷ []) c.requires.named (ap (uses p) c.in-IsClass.is ∙ uses_is_class p c.in-IsClass.set c.in-IsClass.class c.in-IsClass.relation)).1 refl in
+    let named : is_named_for es (wanted_each p AsClass r) ≡ true = one_named es (wanted_each p AsClass r ∷ []) (wanted_each p AsClass r) (both_named es (uses p c.args.formula.now)
+    (set_uses p c.in-IsClass.set) (wanted_each p AsClass c.in-IsClass.relation ∷ []) c.requires.named (ap (uses p)
+    c.in-IsClass.is ∙ uses_is_class p c.in-IsClass.set c.in-IsClass.class c.in-IsClass.relation)).1 refl in
     named_count es r (p.scope.objects * class_bits p) c.gates_for-rows.result.now named c.gates_for-rows.ensures
 
 pub formula_gate-number_gates-requires-clause-named : goal.formula_gate-number_gates-requires-clause-named
 formula_gate-number_gates-requires-clause-named t c =
     let p = c.args.problem.now in
     let es = c.args.relations.now in
-    (subst (λ e. are_named es (number_uses p e) ≡ true) (sym c.get-in-SameNum.ensures) (both_named es (uses p c.args.formula.now) (number_uses p c.in-SameNum.a) (number_uses p c.in-SameNum.b) c.requires.named (ap (uses p) c.in-SameNum.is ∙ uses_same_number p c.in-SameNum.a c.in-SameNum.b)).0)
+    (subst (λ e. are_named es (number_uses p e) ≡ true) (sym c.get-in-SameNum.ensures)
+    (both_named es (uses p c.args.formula.now) (number_uses p c.in-SameNum.a) (number_uses p c.in-SameNum.b) c.requires.named
+    (ap (uses p) c.in-SameNum.is ∙ uses_same_number p c.in-SameNum.a c.in-SameNum.b)).0)
 
 pub formula_gate-number_gates-requires-in-SameNum-clause-named : goal.formula_gate-number_gates-requires-in-SameNum-clause-named
 formula_gate-number_gates-requires-in-SameNum-clause-named t c =
     let p = c.args.problem.now in
     let es = c.args.relations.now in
-    (subst (λ e. are_named es (number_uses p e) ≡ true) (sym c.get-in-SameNum-2.ensures) (both_named es (uses p c.args.formula.now) (number_uses p c.in-SameNum.a) (number_uses p c.in-SameNum.b) c.requires.named (ap (uses p) c.in-SameNum.is ∙ uses_same_number p c.in-SameNum.a c.in-SameNum.b)).1)
+    (subst (λ e. are_named es (number_uses p e) ≡ true) (sym c.get-in-SameNum-2.ensures)
+    (both_named es (uses p c.args.formula.now) (number_uses p c.in-SameNum.a) (number_uses p c.in-SameNum.b) c.requires.named
+    (ap (uses p) c.in-SameNum.is ∙ uses_same_number p c.in-SameNum.a c.in-SameNum.b)).1)
 
 pub formula_gate-number_gates-requires-in-BelowNum-clause-named : goal.formula_gate-number_gates-requires-in-BelowNum-clause-named
 formula_gate-number_gates-requires-in-BelowNum-clause-named t c =
     let p = c.args.problem.now in
     let es = c.args.relations.now in
-    (subst (λ e. are_named es (number_uses p e) ≡ true) (sym c.get-in-BelowNum.ensures) (both_named es (uses p c.args.formula.now) (number_uses p c.in-BelowNum.a) (number_uses p c.in-BelowNum.b) c.requires.named (ap (uses p) c.in-BelowNum.is ∙ uses_below p c.in-BelowNum.a c.in-BelowNum.b)).0)
+    (subst (λ e. are_named es (number_uses p e) ≡ true) (sym c.get-in-BelowNum.ensures)
+    (both_named es (uses p c.args.formula.now) (number_uses p c.in-BelowNum.a) (number_uses p c.in-BelowNum.b) c.requires.named
+    (ap (uses p) c.in-BelowNum.is ∙ uses_below p c.in-BelowNum.a c.in-BelowNum.b)).0)
 
 pub formula_gate-number_gates-requires-in-BelowNum-2-clause-named : goal.formula_gate-number_gates-requires-in-BelowNum-2-clause-named
 formula_gate-number_gates-requires-in-BelowNum-2-clause-named t c =
     let p = c.args.problem.now in
     let es = c.args.relations.now in
-    (subst (λ e. are_named es (number_uses p e) ≡ true) (sym c.get-in-BelowNum-2.ensures) (both_named es (uses p c.args.formula.now) (number_uses p c.in-BelowNum.a) (number_uses p c.in-BelowNum.b) c.requires.named (ap (uses p) c.in-BelowNum.is ∙ uses_below p c.in-BelowNum.a c.in-BelowNum.b)).1)
+    (subst (λ e. are_named es (number_uses p e) ≡ true) (sym c.get-in-BelowNum-2.ensures)
+    (both_named es (uses p c.args.formula.now) (number_uses p c.in-BelowNum.a) (number_uses p c.in-BelowNum.b) c.requires.named
+    (ap (uses p) c.in-BelowNum.is ∙ uses_below p c.in-BelowNum.a c.in-BelowNum.b)).1)
 
 pub formula_gate-set_gates-requires-in-Changed-clause-named : goal.formula_gate-set_gates-requires-in-Changed-clause-named
 formula_gate-set_gates-requires-in-Changed-clause-named t c =
     let p = c.args.problem.now in
     let es = c.args.relations.now in
-    (subst (λ e. are_named es (set_uses p e) ≡ true) (sym c.get-in-Changed.ensures) (both_named es (uses p c.args.formula.now) (set_uses p c.in-Changed.set) (option_map_or (changed_uses p c.in-Changed.new c.in-Changed.given c.in-Changed.old) (spread_use p c.in-Changed.new) []) c.requires.named (ap (uses p) c.in-Changed.is ∙ uses_changed p c.in-Changed.new c.in-Changed.set c.in-Changed.given c.in-Changed.old)).0)
+    (subst (λ e. are_named es (set_uses p e) ≡ true) (sym c.get-in-Changed.ensures)
+    (both_named es (uses p c.args.formula.now) (set_uses p c.in-Changed.set)
+    (option_map_or (changed_uses p c.in-Changed.new c.in-Changed.given c.in-Changed.old) (spread_use p c.in-Changed.new) []) c.requires.named (ap (uses p)
+    c.in-Changed.is ∙ uses_changed p c.in-Changed.new c.in-Changed.set c.in-Changed.given c.in-Changed.old)).0)
 
 pub formula_gate-changed_gate-requires-clause-named : goal.formula_gate-changed_gate-requires-clause-named
 formula_gate-changed_gate-requires-clause-named t c =
     let p = c.args.problem.now in
     let es = c.args.relations.now in
-    (both_named es (uses p c.args.formula.now) (set_uses p c.in-Changed.set) (option_map_or (changed_uses p c.in-Changed.new c.in-Changed.given c.in-Changed.old) (spread_use p c.in-Changed.new) []) c.requires.named (ap (uses p) c.in-Changed.is ∙ uses_changed p c.in-Changed.new c.in-Changed.set c.in-Changed.given c.in-Changed.old)).1
+    (both_named es (uses p c.args.formula.now) (set_uses p c.in-Changed.set)
+    (option_map_or (changed_uses p c.in-Changed.new c.in-Changed.given c.in-Changed.old) (spread_use p c.in-Changed.new) []) c.requires.named (ap (uses p)
+    c.in-Changed.is ∙ uses_changed p c.in-Changed.new c.in-Changed.set c.in-Changed.given c.in-Changed.old)).1
 
 pub formula_gate-formula_gate-requires : goal.formula_gate-formula_gate-requires
 formula_gate-formula_gate-requires t c =
@@ -135,7 +156,11 @@ formula_gate-formula_gate-requires-in-Same t c =
     let b = c.in-Same.b in
     let less : size a + 1 ≤ size c.args.formula.now = subst (λ n. size a + 1 ≤ n) (sym (ap size c.in-Same.is ∙ size_same a b)) (omega arith) in (
       part_falls a c.get-in-Same.result.now (size c.args.formula.now) t c.get-in-Same.ensures less c.decreases,
-      (c.requires.stand, (subst (λ e. are_named es (uses p e) ≡ true) (sym c.get-in-Same.ensures) (both_named es (uses p c.args.formula.now) (uses p a) (uses p b) c.requires.named (ap (uses p) c.in-Same.is ∙ uses_same p a b)).0)),
+      (
+        c.requires.stand,
+        (subst (λ e. are_named es (uses p e) ≡ true) (sym c.get-in-Same.ensures)
+            (both_named es (uses p c.args.formula.now) (uses p a) (uses p b) c.requires.named (ap (uses p) c.in-Same.is ∙ uses_same p a b)).0),
+      ),
     )
 
 pub formula_gate-formula_gate-requires-in-Same-2 : goal.formula_gate-formula_gate-requires-in-Same-2
@@ -146,7 +171,11 @@ formula_gate-formula_gate-requires-in-Same-2 t c =
     let b = c.in-Same.b in
     let less : size b + 1 ≤ size c.args.formula.now = subst (λ n. size b + 1 ≤ n) (sym (ap size c.in-Same.is ∙ size_same a b)) (omega arith) in (
       part_falls b c.get-in-Same-2.result.now (size c.args.formula.now) t c.get-in-Same-2.ensures less c.decreases,
-      (stand_more c.args.gates.now c.formula_gate-in-Same.new.gates es c.in_ok-x-in-Same.ensures.keeps c.requires.stand, (subst (λ e. are_named es (uses p e) ≡ true) (sym c.get-in-Same-2.ensures) (both_named es (uses p c.args.formula.now) (uses p a) (uses p b) c.requires.named (ap (uses p) c.in-Same.is ∙ uses_same p a b)).1)),
+      (
+        stand_more c.args.gates.now c.formula_gate-in-Same.new.gates es c.in_ok-x-in-Same.ensures.keeps c.requires.stand,
+        (subst (λ e. are_named es (uses p e) ≡ true) (sym c.get-in-Same-2.ensures)
+            (both_named es (uses p c.args.formula.now) (uses p a) (uses p b) c.requires.named (ap (uses p) c.in-Same.is ∙ uses_same p a b)).1),
+      ),
     )
 
 pub formula_gate-returns-in_ok-gate-in-FlagAt-clause-truth : goal.formula_gate-returns-in_ok-gate-in-FlagAt-clause-truth
