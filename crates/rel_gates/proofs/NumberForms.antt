@@ -1,50 +1,7 @@
 -- The gates of each form of a number that has no numbers within.
-use Rattle.std.proofs.Common.{
-  ◌≡◌,
-  ℕ,
-  zero,
-  suc,
-  ◌+◌,
-  ◌-◌,
-  ◌*◌,
-  ◌^◌,
-  ◌<◌,
-  ◌≤◌,
-  Bool,
-  true,
-  false,
-  ◌&&◌,
-  List,
-  [],
-  ◌∷◌,
-  ◌++◌,
-  length,
-  map,
-  drop,
-  cond,
-  get_or,
-  All,
-  refl,
-  sym,
-  subst,
-  ap,
-  ◌∙◌,
-  arith,
-  inl,
-  inr,
-  add-one,
-  ℤ,
-  pos,
-  negsuc,
-  ◌-ℤ◌,
-  Option,
-  Some,
-  None,
-  is_some,
-  length-append,
-}
+use Rattle.std.proofs.Common.{◌≡◌, ℕ, zero, suc, ◌+◌, ◌-◌, ◌*◌, ◌^◌, ◌<◌, ◌≤◌, Bool, true, false, List, [], ◌∷◌, ◌++◌, length, map, cond, get_or, refl, sym, subst, ap, ◌∙◌, arith, add-one, ℤ, pos, negsuc, ◌-ℤ◌, Option, Some, None, is_some, length-append}
 use Rattle.std.specs.Prelude.{if◌then◌else◌, int_lt, IsTrue, filter, count_by, unwrap_or}
-use Rattle.std.specs.List.{list_any, range_with_len}
+use Rattle.std.specs.List.{range_with_len}
 use Rattle.std.specs.Option.{option_map_or}
 use Rattle.std.proofs.lemmas.Bool.{and_parts, le-ltb}
 use Rattle.std.proofs.lemmas.Int.{ints}
@@ -65,7 +22,6 @@ use Rattle.heap_core.specs.Posed.{Posed}
 use Rattle.heap_core.specs.Outcomes.{in_bits}
 use Rattle.rel_core.specs.declared.relation.RelVar.{RelVar}
 use Rattle.rel_core.specs.declared.sets.RelExpr.{RelExpr}
-use Rattle.rel_core.specs.declared.numbers.NumExpr.{NumExpr}
 use Rattle.rel_core.specs.declared.numbers.NumExpr.TheVariants as n
 use Rattle.rel_core.specs.Reading.{Reading, numbers_below}
 use Rattle.rel_core.specs.Meaning.{has_object, only, set_of, fitting, number_of}
@@ -73,7 +29,7 @@ use Rattle.rel_core.specs.Uses.{Kinds, AsNumber, AsClass, is_variable, is_spread
 use Rattle.rel_core.proofs.Forms.{number_const, number_var, number_at, number_count, sorted_number_var, sorted_number_at, sorted_number_count}
 use Rattle.rel_gates.specs.Shown.{Named, gates_of, class_bits, in_row, row_bits, number_shown}
 use Rattle.rel_gates.specs.Constants.{digit}
-use Rattle.rel_gates.specs.Counted.{low_part, IsStanding, counted, IsNumberOf}
+use Rattle.rel_gates.specs.Counted.{low_part, counted, IsNumberOf}
 use Rattle.rel_gates.specs.Meant.{Stand, reference_at, IsSeen, AreSet}
 use Rattle.rel_gates.proofs.AtOnly.{only_alike}
 use Rattle.rel_gates.proofs.BitRows.{map_places, bits_of_truths, number_of_constants, row_same}

@@ -1,12 +1,12 @@
 -- One row more that is another but for some objects.
-use Rattle.std.proofs.Common.{◌≡◌, ℕ, ◌+◌, ◌*◌, ◌<◌, Bool, not, ◌&&◌, List, length, get_or, All, sym, subst, ap, ◌∙◌, arith}
+use Rattle.std.proofs.Common.{◌≡◌, ℕ, ◌+◌, ◌*◌, ◌<◌, Bool, not, List, length, get_or, All, sym, subst, ap, ◌∙◌, arith}
 use Rattle.std.specs.Prelude.{if◌then◌else◌}
 use Rattle.std.proofs.lemmas.Nat.{mul-add-lt}
 use Rattle.gate_core.specs.declared.circuit.Node.{Node}
 use Rattle.gate_core.specs.Circuit.{value, IsOf, Keeps}
 use Rattle.gate_arith.specs.Numbers.{differ}
 use Rattle.gate_arith.specs.Operations.{IsTruth}
-use Rattle.gate_sets.specs.Lists.{at, AreTruths}
+use Rattle.gate_sets.specs.Lists.{at}
 use Rattle.gate_sets.specs.Shapes.{are_same}
 use Rattle.gate_sets.proofs.Standing.{truth_alike, read_kept}
 use Rattle.rel_gates.specs.Changes.{row_changes}

@@ -1,40 +1,5 @@
 -- Two rows of gates agree exactly where the relations have the same.
-use Rattle.std.proofs.Common.{
-  ◌≡◌,
-  ℕ,
-  zero,
-  suc,
-  ◌+◌,
-  ◌-◌,
-  ◌*◌,
-  ◌^◌,
-  ◌<◌,
-  ◌≤◌,
-  Bool,
-  true,
-  false,
-  not,
-  ◌&&◌,
-  ◌||◌,
-  List,
-  [],
-  ◌∷◌,
-  ◌++◌,
-  length,
-  map,
-  refl,
-  sym,
-  subst,
-  ap,
-  ◌∙◌,
-  arith,
-  inl,
-  inr,
-  ℤ,
-  pos,
-  ◌-ℤ◌,
-  Some,
-}
+use Rattle.std.proofs.Common.{◌≡◌, ℕ, zero, suc, ◌+◌, ◌-◌, ◌*◌, ◌^◌, ◌<◌, ◌≤◌, Bool, true, false, not, ◌&&◌, ◌||◌, List, [], ◌∷◌, map, refl, sym, subst, ap, ◌∙◌, arith, inl, inr, ℤ, pos, ◌-ℤ◌, Some}
 use Rattle.std.specs.Prelude.{nat_lt, if◌then◌else◌}
 use Rattle.std.specs.Ordering.{int_eq}
 use Rattle.std.specs.List.{list_all, range_with_len}
@@ -54,8 +19,8 @@ use Rattle.heap_core.specs.Outcomes.{in_bits, same_flag}
 use Rattle.rel_core.specs.declared.relation.RelVar.{RelVar}
 use Rattle.rel_core.specs.Reading.{Reading, is_reference, references}
 use Rattle.rel_core.specs.Meaning.{same_at}
-use Rattle.rel_core.specs.Uses.{Kinds, Use, AsSet, AsNumber, AsFlag, AsClass, same_use, is_slot, has_use, has_place, is_class_number, can_have, IsOf}
-use Rattle.rel_gates.specs.Shown.{class_bits, width_of, in_row, row_bits, number_shown, flag_shown}
+use Rattle.rel_core.specs.Uses.{Kinds, Use, AsSet, AsNumber, AsFlag, AsClass, same_use, is_slot, has_use, has_place, is_class_number, IsOf}
+use Rattle.rel_gates.specs.Shown.{class_bits, width_of, in_row, row_bits}
 use Rattle.rel_gates.specs.Meant.{reference_at}
 use Rattle.rel_gates.proofs.Wanted.{one_use}
 use Rattle.rel_gates.proofs.Digits.{map_alike}

@@ -1,41 +1,5 @@
 -- The relations of tuples are named one behind the other.
-use Rattle.std.proofs.Common.{
-  ◌≡◌,
-  ℕ,
-  zero,
-  suc,
-  ◌+◌,
-  ◌-◌,
-  ◌*◌,
-  ◌/◌,
-  ◌%◌,
-  ◌<◌,
-  ◌≤◌,
-  Bool,
-  true,
-  false,
-  List,
-  [],
-  ◌∷◌,
-  ◌++◌,
-  length,
-  map,
-  take,
-  drop,
-  get_or,
-  refl,
-  sym,
-  subst,
-  ap,
-  ◌∙◌,
-  arith,
-  inl,
-  inr,
-  Option,
-  Some,
-  None,
-  append_assoc,
-}
+use Rattle.std.proofs.Common.{◌≡◌, ℕ, zero, suc, ◌+◌, ◌-◌, ◌*◌, ◌/◌, ◌%◌, ◌<◌, ◌≤◌, Bool, false, List, [], ◌∷◌, ◌++◌, length, map, take, get_or, refl, sym, subst, ap, ◌∙◌, arith, inl, inr, Some, None, append_assoc}
 use Rattle.std.specs.Prelude.{◌==◌, slice_get, if◌then◌else◌}
 use Rattle.std.proofs.Math.Nat.{div-add-mod, div-lt_iff_lt-mul, mod-lt, mul_comm}
 use Rattle.std.proofs.lemmas.Bool.{false≢true, cases_Bool, cases_lt, eq-eqb}
@@ -46,12 +10,12 @@ use Rattle.gate_core.specs.Circuit.{IsOf}
 use Rattle.heap_core.specs.Posed.{Posed}
 use Rattle.tuple_sets.specs.Words.{has}
 use Rattle.rel_core.specs.declared.relation.RelVar.{RelVar}
-use Rattle.rel_core.specs.Reading.{Reading, same_relation}
+use Rattle.rel_core.specs.Reading.{same_relation}
 use Rattle.rel_core.specs.Uses.{Kinds, AsSet}
-use Rattle.rel_gates.specs.Shown.{Named, gates_of, rows_of, gate_count}
-use Rattle.rel_gates.specs.Naming.{Wanted, AreInputs, IsSmall, IsWithin, FitsUse, IsNaming, AreNamed}
+use Rattle.rel_gates.specs.Shown.{Named, gates_of, rows_of}
+use Rattle.rel_gates.specs.Naming.{Wanted, AreInputs, IsSmall, FitsUse, IsNaming}
 use Rattle.rel_gates.specs.Meant.{reference_at}
-use Rattle.rel_gates.specs.Rows.{total, IsTupleAt, IsTupleUse, AreApart, AreTupleUses, AreGatesFrom, NamesTuple, NamesTuples}
+use Rattle.rel_gates.specs.Rows.{total, IsTupleUse, AreApart, AreTupleUses, AreGatesFrom, NamesTuple, NamesTuples}
 use Rattle.rel_gates.proofs.Growing.{IsFree, same_relation-refl, found_first, found_last}
 use Rattle.rel_gates.proofs.InputLists.{inputs_both}
 use Rattle.rel_gates.proofs.Fresh.{no_inputs}

@@ -38,7 +38,7 @@ use Rattle.std.specs.List.{range_with_len}
 use Rattle.std.specs.Option.{option_map_or}
 use Rattle.std.proofs.Math.Nat.{mul_comm}
 use Rattle.std.proofs.Math.Seq.{take-append-add}
-use Rattle.std.proofs.lemmas.Bool.{false≢true, true≢false, cases_Bool, cases_lt, and_left, ne_eqb, not-true}
+use Rattle.std.proofs.lemmas.Bool.{false≢true, cases_Bool, cases_lt, and_left, ne_eqb}
 use Rattle.std.proofs.lemmas.Nat.{mul-add-lt}
 use Rattle.std.proofs.lemmas.List.{length-append, length-map, take-append-le, take_all}
 use Rattle.std.proofs.lemmas.Option.{slice_get-map, slice_get_within}
@@ -49,8 +49,7 @@ use Rattle.taco_unit.specs.declared.unit.ParamDef.{ParamDef}
 use Rattle.taco_unit.specs.declared.unit.MethodDef.{MethodDef}
 use Rattle.taco_unit.specs.Kinds.{is_class_kind}
 use Rattle.taco_unit.specs.Well.{param_kinds}
-use Rattle.heap_core.specs.declared.value.Value.{Value}
-use Rattle.heap_core.specs.declared.value.Value.TheVariants.{Null, Obj}
+use Rattle.heap_core.specs.declared.value.Value.TheVariants.{Obj}
 use Rattle.heap_core.specs.Posed.{Posed}
 use Rattle.heap_core.specs.Start.{method_of}
 use Rattle.heap_core.proofs.Lists.{slice_get-append_left, slice_get-append_right}
@@ -62,8 +61,8 @@ use Rattle.rel_core.specs.declared.relation.RelVar.{RelVar}
 use Rattle.rel_core.specs.declared.relation.What.TheVariants as what
 use Rattle.rel_core.specs.Reading.{same_relation}
 use Rattle.rel_core.specs.Uses.{Kinds, GivesStart, receiver_kinds, start_kinds, use_of_kind, AsSet, same_use, has_use}
-use Rattle.rel_gates.specs.Shown.{variable_of, rows_of}
-use Rattle.rel_gates.specs.Naming.{Wanted, wanted_one, wanted_each}
+use Rattle.rel_gates.specs.Shown.{variable_of}
+use Rattle.rel_gates.specs.Naming.{wanted_one, wanted_each}
 use Rattle.rel_gates.specs.Meant.{reference_at}
 use Rattle.rel_gates.specs.Rows.{slot_first, field_first, roots_in, tuple_uses, total, IsTupleAt, IsTupleUse, AreApart, AreTupleUses}
 use Rattle.rel_gates.proofs.TupleNaming.{total-append}

@@ -1,5 +1,5 @@
 -- Place by place.
-use Rattle.std.proofs.Common.{◌≡◌, ℕ, ◌<◌, Bool, length, get_or, ap, ◌∙◌, arith}
+use Rattle.std.proofs.Common.{ℕ, Bool, length, get_or, ap, ◌∙◌, arith}
 use Rattle.std.specs.Prelude.{if◌then◌else◌}
 use Rattle.gate_core.specs.Circuit.{value}
 use Rattle.gate_sets.specs.Lists.{at}

@@ -1,5 +1,5 @@
 -- One object more.
-use Rattle.std.proofs.Common.{◌≡◌, ℕ, ◌<◌, Bool, length, refl, ap, arith}
+use Rattle.std.proofs.Common.{ℕ, ◌<◌, Bool, length, refl, arith}
 use Rattle.gate_core.specs.Circuit.{value}
 use Rattle.gate_core.proofs.Values.{keeps_twice}
 use Rattle.gate_sets.proofs.Places.{every_more}

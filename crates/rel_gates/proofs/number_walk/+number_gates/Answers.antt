@@ -1,5 +1,5 @@
 -- The gates of a number, from those within.
-use Rattle.std.proofs.Common.{◌≡◌, ◌++◌, true, sym, subst, ap, ◌∙◌, arith}
+use Rattle.std.proofs.Common.{◌≡◌, true, sym, subst, ap, ◌∙◌, arith}
 use Rattle.gate_core.specs.Circuit.{IsOf}
 use Rattle.rel_gates.specs.Naming.{number_uses, are_named}
 use Rattle.rel_gates.specs.Meant.{AreSet}

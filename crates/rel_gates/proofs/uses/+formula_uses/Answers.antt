@@ -1,11 +1,11 @@
 -- The uses of a formula are those of its parts, in order.
-use Rattle.std.proofs.Common.{◌≡◌, ◌+◌, ◌∷◌, ◌++◌, [], length, take, refl, sym, subst, ap, ◌∙◌, append_assoc, arith}
+use Rattle.std.proofs.Common.{◌≡◌, ◌+◌, ◌∷◌, ◌++◌, [], take, sym, subst, ap, ◌∙◌, append_assoc, arith}
 use Rattle.std.specs.List.{flat_map}
 use Rattle.std.proofs.lemmas.List.{flat_map_more, take_more, take_all}
 use Rattle.rel_core.specs.declared.formula.Formula.{Formula}
 use Rattle.rel_gates.specs.Naming.{Wanted, uses, PartsFit}
 use Rattle.rel_gates.proofs.FormulaUses.{uses_subset, uses_is_class, uses_same_number, uses_below, uses_changed, uses_and, uses_or, uses_same}
-use Rattle.rel_gates.proofs.FormulaFits.{no_parts_fit, one_part_more, flag_at_fits, subset_fits, is_class_fits, same_number_fits, below_fits, fits_fits, changed_fits, not_fits, and_fits, or_fits, same_fits}
+use Rattle.rel_gates.proofs.FormulaFits.{one_part_more, flag_at_fits, subset_fits, is_class_fits, same_number_fits, below_fits, fits_fits, changed_fits, not_fits, and_fits, or_fits, same_fits}
 use Rattle.rel_gates.proofs.uses.+formula_uses.Goals as goal
 
 -- what is added twice
