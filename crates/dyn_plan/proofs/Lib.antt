@@ -29,3 +29,4 @@ pub mod FitExprs
 pub mod FitCalls
 pub mod FitAll
 pub mod FitForms
+pub mod FitEvery
