@@ -8,25 +8,27 @@ use Rattle.taco_unit.specs.declared.kind.Kind.TheVariants as kind
 use Rattle.taco_unit.specs.declared.expr.Expr.{Expr, ind-Expr, roll-Expr, map-Expr}
 use Rattle.taco_unit.specs.declared.expr.Expr.TheOpen.{Expr-F, Call-F}
 use Rattle.taco_unit.specs.declared.expr.Expr.TheVariants as e
-use Rattle.taco_unit.specs.declared.expr.Call.{Call, out-Call, roll-Call, map-Call}
+use Rattle.taco_unit.specs.declared.expr.Call.{Call, out-Call, map-Call}
 use Rattle.taco_unit.specs.declared.expr.Quant.{Quant, out-Quant}
 use Rattle.taco_unit.specs.declared.expr.Reach.{Reach}
 use Rattle.taco_unit.specs.declared.unit.MethodDef.{MethodDef}
-use Rattle.taco_unit.specs.Kinds.{Sort, Of, Faulty, Sorted, Around, Form, Code as InCode, suits, where_, is_kind_of, sort_of, sort_of_kind, sort_of_class, binary_sort, operator_sort, in_code, in_clause, in_exit, past, has_sort, size_sort, are_arguments, result_sort, with_bound, is_condition}
+use Rattle.taco_unit.specs.Kinds.{Sort, Of, Faulty, Around, Form, Code as InCode, suits, where_, is_kind_of, sort_of, sort_of_kind, sort_of_class, binary_sort, operator_sort}
+use Rattle.taco_unit.specs.Kinds.{in_code, in_clause, in_exit, past, has_sort, size_sort, are_arguments, result_sort, with_bound, is_condition}
 use Rattle.taco_unit.specs.Well.{IsWell, result_kind}
-use Rattle.taco_unit.proofs.KindForms.{sort_of_call, sort_of_reach, called_as, is_target_of, sort_bin, sort_call, sort_result, sort_bound, sort_quant, sort_old, sort_has, sort_size, call_form as call_sorted}
+use Rattle.taco_unit.proofs.KindForms.{sort_of_call, sort_of_reach, called_as, is_target_of, sort_bin, sort_call, sort_result, sort_bound, sort_quant, sort_old, sort_has}
+use Rattle.taco_unit.proofs.KindForms.{sort_size, call_form as call_sorted}
 use Rattle.heap_core.specs.Posed.{Posed}
 use Rattle.dyn_plan.specs.Places.{Ground, Spots}
-use Rattle.dyn_plan.specs.Expressions.{Low, Inline, kind_or, kind_of_op, kind_of_result, expr_step, low_expr, low_call}
+use Rattle.dyn_plan.specs.Expressions.{Inline, kind_or, kind_of_result, expr_step, low_expr, low_call}
 use Rattle.dyn_plan.specs.Frames.{result_of}
 use Rattle.dyn_plan.proofs.LowForms.{is_bin, is_call, kind_called}
-use Rattle.dyn_plan.proofs.FitPlaces.{FrameFits, FitsAt}
+use Rattle.dyn_plan.proofs.FitPlaces.{FrameFits}
 use Rattle.dyn_plan.proofs.FitExprs.{Agrees, ExprFits, binary_agrees}
 use Rattle.dyn_plan.proofs.FitCalls.{as_wanted, InlineFits, EachFits, MaybeFits, combined_fits}
 use Rattle.dyn_plan.proofs.FitAll.{call_fits, result_known}
 use Rattle.dyn_plan.proofs.FitForms.{formed, never, code_agrees, num_fits, flag_fits, null_form, this_form, local_form, read_form, neg_form, not_form, new_form}
 use Rattle.dyn_plan.proofs.EndParts.{kinds_same, in_code_suits}
-use Rattle.dyn_plan.proofs.EndCalls.{called_suits, method_there}
+use Rattle.dyn_plan.proofs.EndCalls.{called_suits}
 
 never_clause : (f : Form) (s : Sort) → f ≡ InCode → in_clause f s ≡ Faulty
 never_clause f s is = ap (λ z. in_clause z s) is
@@ -38,7 +40,8 @@ quant_faulty : (q : Quant) (k : Around) → k.form ≡ InCode → sort_of (e.Qua
 quant_faulty q k form =
     let x = out-Quant q in
     let inner : Around = with_bound k x.class in
-    let s : Sort = where_ (nat_lt x.class (length k.unit.classes) && x.bound == length k.bound && option_map_or (λ r. is_condition inner r) x.range true && is_condition inner x.body) (Of kind.Flag) in
+    let s : Sort = where_ (nat_lt x.class (length k.unit.classes) && x.bound == length k.bound && option_map_or (λ r. is_condition inner r) x.range true && is_condition inner x.body)
+    (Of kind.Flag) in
     sort_quant q k ∙ never_clause k.form s form
 
 result_suits : (w : Kind) (r : Option (Kind × Bool)) → suits w (result_sort r) ≡ true → w ≡ kind_or (option_map (λ r. r.0) r) kind.Int
@@ -70,7 +73,8 @@ module _ (p : Posed) (args : List Kind) (g : Ground) (well : IsWell g.unit) (sam
 
   call_form : (c : Call) → PartsFit (out-Call c) → ExprFits p args g (sort_of (e.Call c)) (low_expr g inline (e.Call c))
   call_form c parts =
-      formed p args g (sort_of (e.Call c)) (λ k. in_code k.form (sort_of_call c k)) (low_expr g inline (e.Call c)) (expr_step g (Expr-F.Call (low_call g inline c))) (sort_call c) (is_call g inline c) (record {
+      formed p args g (sort_of (e.Call c)) (λ k. in_code k.form (sort_of_call c k)) (low_expr g inline (e.Call c)) (expr_step g (Expr-F.Call (low_call g inline c))) (sort_call c)
+      (is_call g inline c) (record {
         kind = λ k f frame. call_agrees c k f frame;
         fits = λ w k f b frame row known is.
             let x = out-Call c in
@@ -119,10 +123,13 @@ module _ (p : Posed) (args : List Kind) (g : Ground) (well : IsWell g.unit) (sam
       }))
   layer (Expr-F.Quant q) = rw (e.rolls-Quant q.0)
       (never p args g (sort_of (e.Quant q.0)) (low_expr g inline (e.Quant q.0)) (λ k f frame. quant_faulty q.0 k frame.form))
-  layer (Expr-F.Old a) = rw (e.rolls-Old a.0) (never p args g (sort_of (e.Old a.0)) (low_expr g inline (e.Old a.0)) (λ k f frame. sort_old a.0 k ∙ never_exit k.form (sort_of a.0 (past k)) frame.form))
+  layer (Expr-F.Old a) = rw (e.rolls-Old a.0) (never p args g (sort_of (e.Old a.0)) (low_expr g inline (e.Old a.0)) (λ k f frame. sort_old a.0 k ∙ never_exit k.form (sort_of a.0
+      (past k)) frame.form))
   layer (Expr-F.Has q a) = rw (e.rolls-Has q.0 a.0)
-      (never p args g (sort_of (e.Has q.0 a.0)) (low_expr g inline (e.Has q.0 a.0)) (λ k f frame. sort_has q.0 a.0 k ∙ never_clause k.form (has_sort (sort_of_reach q.0 k) (sort_of a.0 k)) frame.form))
-  layer (Expr-F.Size q) = rw (e.rolls-Size q.0) (never p args g (sort_of (e.Size q.0)) (low_expr g inline (e.Size q.0)) (λ k f frame. sort_size q.0 k ∙ never_clause k.form (size_sort (sort_of_reach q.0 k)) frame.form))
+      (never p args g (sort_of (e.Has q.0 a.0)) (low_expr g inline (e.Has q.0 a.0)) (λ k f frame. sort_has q.0 a.0 k ∙ never_clause k.form (has_sort (sort_of_reach q.0 k)
+      (sort_of a.0 k)) frame.form))
+  layer (Expr-F.Size q) = rw (e.rolls-Size q.0) (never p args g (sort_of (e.Size q.0)) (low_expr g inline (e.Size q.0)) (λ k f frame. sort_size q.0 k ∙ never_clause k.form (size_sort
+      (sort_of_reach q.0 k)) frame.form))
   layer (Expr-F.New c) = rw (e.rolls-New c) (new_form p args g well same inline c)
   layer (Expr-F.Call c) = rw (e.rolls-Call c.0) (call_form c.0 c.1)
 

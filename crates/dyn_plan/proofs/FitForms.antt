@@ -1,36 +1,28 @@
 -- The kinds of every lowered expression of code, where inlined methods fit.
-use Rattle.std.proofs.Common.{◌≡◌, ℕ, ◌+◌, Bool, true, false, List, [], ◌∷◌, length, Option, Some, None, refl, sym, ◌∙◌, ap, subst}
-use Rattle.std.specs.Prelude.{ℤ, ◌&&◌, nat_lt, map, slice_get, option_map}
-use Rattle.std.specs.Option.{option_map_or}
+use Rattle.std.proofs.Common.{◌≡◌, ℕ, ◌+◌, Bool, true, false, List, length, Option, Some, None, refl, sym, ◌∙◌, ap, subst}
+use Rattle.std.specs.Prelude.{ℤ, nat_lt, slice_get}
 use Rattle.std.proofs.lemmas.Bool.{false≢true}
 use Rattle.taco_unit.specs.declared.kind.Kind.{Kind}
 use Rattle.taco_unit.specs.declared.kind.Kind.TheVariants as kind
-use Rattle.taco_unit.specs.declared.expr.Expr.{Expr, ind-Expr, roll-Expr, map-Expr}
-use Rattle.taco_unit.specs.declared.expr.Expr.TheOpen.{Expr-F, Call-F}
+use Rattle.taco_unit.specs.declared.expr.Expr.{Expr}
+use Rattle.taco_unit.specs.declared.expr.Expr.TheOpen.{Expr-F}
 use Rattle.taco_unit.specs.declared.expr.Expr.TheVariants as e
-use Rattle.taco_unit.specs.declared.expr.Call.{Call, out-Call, roll-Call, map-Call}
-use Rattle.taco_unit.specs.declared.expr.Quant.{Quant}
-use Rattle.taco_unit.specs.declared.expr.Reach.{Reach}
-use Rattle.taco_unit.specs.declared.unit.MethodDef.{MethodDef}
-use Rattle.taco_unit.specs.Parts.{Parts}
-use Rattle.taco_unit.specs.Kinds.{Sort, Of, NullOnly, Faulty, NoValue, Sorted, Around, Form, Code as InCode, Entry, Exit, Past, suits, where_, is_kind_of, sort_of, sort_of_kind, sort_of_class, field_sort, binary_sort, operator_sort, in_code, in_clause, in_exit, has_sort, size_sort, past, are_arguments, result_sort}
-use Rattle.taco_unit.specs.Well.{IsWell, result_kind}
-use Rattle.taco_unit.proofs.KindForms.{sort_of_call, called_as, is_target_of, sort_num, sort_flag, sort_null, sort_this, sort_local, sort_read, sort_neg, sort_not, sort_bin, sort_new, sort_call, sort_result, sort_bound, sort_quant, sort_old, sort_has, sort_size, call_form as call_sorted}
+use Rattle.taco_unit.specs.Kinds.{Sort, Of, NullOnly, Faulty, Sorted, Around, Form, Code as InCode, Entry, Exit, Past, suits, where_, is_kind_of, sort_of, sort_of_kind}
+use Rattle.taco_unit.specs.Kinds.{sort_of_class, field_sort, in_code}
+use Rattle.taco_unit.specs.Well.{IsWell}
+use Rattle.taco_unit.proofs.KindForms.{sort_num, sort_flag, sort_null, sort_this, sort_local, sort_read, sort_neg, sort_not, sort_new}
 use Rattle.heap_core.specs.declared.value.Value.TheVariants.{Num}
 use Rattle.heap_core.specs.Posed.{Posed}
 use Rattle.dyn_core.specs.declared.prog.Act.TheVariants.{Const, Diff, Same, Make}
 use Rattle.dyn_plan.specs.Places.{Ground, Spots, slot, zero_number, flag_of}
-use Rattle.dyn_plan.specs.Guards.{Lowered, in_place, null_at}
-use Rattle.dyn_plan.specs.Expressions.{Low, Inline, this_low, found, kind_or, kind_of_field, kind_of_op, kind_of_result, expr_step, low_expr, low_call}
-use Rattle.dyn_plan.specs.Frames.{result_of}
-use Rattle.dyn_plan.proofs.LowForms.{is_num, is_flag, is_null, is_this, is_result, is_local, is_bound, is_read, is_neg, is_not, is_bin, is_quant, is_old, is_has, is_size, is_new, is_call, kind_called}
+use Rattle.dyn_plan.specs.Guards.{in_place, null_at}
+use Rattle.dyn_plan.specs.Expressions.{Low, Inline, this_low, found, kind_of_field, expr_step, low_expr}
+use Rattle.dyn_plan.proofs.LowForms.{is_num, is_flag, is_null, is_this, is_local, is_read, is_neg, is_not, is_new}
 use Rattle.dyn_plan.proofs.FitSteps.{fit_none, fit_do}
-use Rattle.dyn_plan.proofs.FitPlaces.{IsRow, Spot, at_slot, at_number, at_flag, zero_spot, flag_spot, FrameFits, ThisFits, LocalFits, FitsAt, null_fits}
-use Rattle.dyn_plan.proofs.FitExprs.{Agrees, ExprFits, where_agrees, binary_agrees, field_agrees, one_fits, read_fits}
-use Rattle.dyn_plan.proofs.FitCalls.{as_wanted, InlineFits, EachFits, MaybeFits, combined_fits}
-use Rattle.dyn_plan.proofs.FitAll.{call_fits}
+use Rattle.dyn_plan.proofs.FitPlaces.{Spot, at_slot, at_number, at_flag, zero_spot, flag_spot, FrameFits, ThisFits, FitsAt, null_fits}
+use Rattle.dyn_plan.proofs.FitExprs.{Agrees, ExprFits, where_agrees, field_agrees, one_fits, read_fits}
+use Rattle.dyn_plan.proofs.FitCalls.{as_wanted}
 use Rattle.dyn_plan.proofs.EndParts.{kinds_same, where_suits, in_code_suits}
-use Rattle.dyn_plan.proofs.EndCalls.{called_suits}
 
 module _ (p : Posed) (args : List Kind) (g : Ground) where
   pub formed : (s t : Sorted) (x y : Low) → ((k : Around) → s k ≡ t k) → x ≡ y → ExprFits p args g t y → ExprFits p args g s x
@@ -115,7 +107,8 @@ module _ (p : Posed) (args : List Kind) (g : Ground) (well : IsWell g.unit) (sam
 
   pub local_form : (i : ℕ) → ExprFits p args g (sort_of (e.Local i)) (low_expr g inline (e.Local i))
   local_form i =
-      formed p args g (sort_of (e.Local i)) (λ k. sort_of_kind (slice_get k.locals i)) (low_expr g inline (e.Local i)) (expr_step g (Expr-F.Local i)) (sort_local i) (is_local g inline i) (record {
+      formed p args g (sort_of (e.Local i)) (λ k. sort_of_kind (slice_get k.locals i)) (low_expr g inline (e.Local i)) (expr_step g (Expr-F.Local i)) (sort_local i)
+      (is_local g inline i) (record {
         kind = λ k f frame. local_agrees p args g k f i frame (slice_get k.locals i) refl;
         fits = λ w k f b frame row known is. local_fits p args g k f i b w frame (slice_get k.locals i) refl is;
       })
@@ -158,7 +151,8 @@ module _ (p : Posed) (args : List Kind) (g : Ground) (well : IsWell g.unit) (sam
 
   pub new_form : (c : ℕ) → ExprFits p args g (sort_of (e.New c)) (low_expr g inline (e.New c))
   new_form c =
-      formed p args g (sort_of (e.New c)) (λ k. in_code k.form (where_ (nat_lt c (length k.unit.classes)) (Of (kind.Ref c)))) (low_expr g inline (e.New c)) (expr_step g (Expr-F.New c)) (sort_new c)
+      formed p args g (sort_of (e.New c)) (λ k. in_code k.form (where_ (nat_lt c (length k.unit.classes)) (Of (kind.Ref c)))) (low_expr g inline (e.New c)) (expr_step g
+      (Expr-F.New c)) (sort_new c)
       (is_new g inline c) (record {
         kind = λ k f frame.
             subst (λ u. Agrees g.unit (in_code k.form (where_ (nat_lt c (length u.classes)) (Of (kind.Ref c)))) (Some (kind.Ref c))) (sym frame.unit)
