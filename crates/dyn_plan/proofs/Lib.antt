@@ -30,3 +30,4 @@ pub mod FitCalls
 pub mod FitAll
 pub mod FitForms
 pub mod FitEvery
+pub mod FitBlocks
