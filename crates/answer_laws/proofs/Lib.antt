@@ -1,0 +1,3 @@
+pub mod StatePlaces
+pub mod FormulaPlaces
+pub mod LogPlaces
