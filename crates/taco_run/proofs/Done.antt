@@ -13,6 +13,8 @@ use Rattle.taco_run.specs.declared.call.Reply.{Reply}
 use Rattle.taco_io.specs.Taken.{Taken}
 use Rattle.taco_run.specs.Headline.{Runs}
 use Rattle.taco_run.specs.Replies.{IsDone}
+use Rattle.taco_run.specs.Served.{served, served_plainly}
+use Rattle.taco_words.specs.declared.request.Job.{Job}
 use Rattle.taco_run.specs.Requests.{files_of, Second, Says, UsageSays, carries}
 use Rattle.taco_words.specs.declared.request.Request.{Request}
 use Rattle.taco_words.specs.declared.request.Request.TheVariants as request
@@ -57,3 +59,12 @@ wanting_runs asked shelf taken =
     nothing_more : (told : Option (List ℕ)) → Appends told told []
     nothing_more None = tt
     nothing_more (Some bytes) = sym (append-nil bytes)
+
+-- a request that is no check is served by both calls, or by none
+pub same_served : (r : Request) → ((job : Job) (budget : ℕ) → r ≡ request.Check job budget → ⊥) → served_plainly (Some r) ≡ served (Some r)
+same_served (request.Check job budget) other = absurd (other job budget refl)
+same_served (request.Bounds job schedule) other = refl
+same_served (request.Replay job state) other = refl
+same_served (request.Sat cnf budget) other = refl
+same_served (request.Proof cnf log) other = refl
+same_served (request.Stress number) other = refl
