@@ -1,3 +1,5 @@
 pub mod StatePlaces
 pub mod FormulaPlaces
 pub mod LogPlaces
+pub mod Found
+pub mod Texts
