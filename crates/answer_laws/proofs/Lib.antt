@@ -3,3 +3,5 @@ pub mod FormulaPlaces
 pub mod LogPlaces
 pub mod Found
 pub mod Texts
+pub mod Causes
+pub mod Answering
