@@ -30,7 +30,8 @@ use Rattle.taco_words.specs.declared.request.Request.TheVariants as request
 use Rattle.answer_laws.specs.OneStatus.{gone_on, AreOne, IsAnswer, IsTold, MayGiveUp}
 use Rattle.answer_laws.proofs.Found.{Found, Long, Bad, Good, Finds, one_found}
 use Rattle.answer_laws.proofs.Texts.{PosesNot, few_vars, formula_told, java_told, log_told, posed_range, posed_well, state_told}
-use Rattle.answer_laws.proofs.Causes.{EndsFormula, EndsLog, EndsPosed, EndsState, FormulaCause, IsChecked, IsLogEnd, IsSearchEnd, LogCause, PosedCause, StateCause, breaking, broken_, check_cause, following, found_out, gave_up, holding, not_plain_, proof_cause, replay_cause, sat_cause}
+use Rattle.answer_laws.proofs.Causes.{EndsFormula, EndsLog, EndsPosed, EndsState, FormulaCause, IsChecked, IsLogEnd, IsSearchEnd, LogCause, PosedCause, StateCause}
+use Rattle.answer_laws.proofs.Causes.{breaking, broken_, check_cause, following, found_out, gave_up, holding, not_plain_, proof_cause, replay_cause, sat_cause}
 
 -- ONE CAUSE
 
@@ -142,7 +143,8 @@ refusal_same e status.ReadFault h same = sym (refusal_kept e h) ∙ same
 refusal_same e status.WriteFault h same = sym (refusal_kept e h) ∙ same
 refusal_same e status.NoMemory h same = sym (refusal_kept e h) ∙ same
 
-check_said : (job : Job) (told : List ℕ → Option (List ℕ)) (ends : Status) (output : List ℕ) → Tells (java_file job ∷ []) NoSecond (CheckSays job) told ends output → IsRefusal ends → output ≡ refusal_line ends
+check_said : (job : Job) (told : List ℕ → Option (List ℕ)) (ends : Status) (output : List ℕ) → Tells (java_file job ∷ []) NoSecond (CheckSays job) told ends output → IsRefusal ends
+    → output ≡ refusal_line ends
 check_said job told status.Holds output t h = absurd (omega (arith, h.low))
 check_said job told status.Violated output t h = absurd (omega (arith, h.low))
 check_said job told status.Done output t h = absurd (omega (arith, h.low))
@@ -159,7 +161,8 @@ check_said job told status.ReadFault output t h = absurd (omega (arith, h.high))
 check_said job told status.WriteFault output t h = absurd (omega (arith, h.high))
 check_said job told status.NoMemory output t h = absurd (omega (arith, h.high))
 
-replay_said : (job : Job) (state : List ℕ) (told : List ℕ → Option (List ℕ)) (ends : Status) (output : List ℕ) → Tells (java_file job ∷ state_file state ∷ []) (HoldsProblemOf job) (ReplaySays job state) told ends output → IsRefusal ends → output ≡ refusal_line ends
+replay_said : (job : Job) (state : List ℕ) (told : List ℕ → Option (List ℕ)) (ends : Status) (output : List ℕ)
+    → Tells (java_file job ∷ state_file state ∷ []) (HoldsProblemOf job) (ReplaySays job state) told ends output → IsRefusal ends → output ≡ refusal_line ends
 replay_said job state told status.Holds output t h = absurd (omega (arith, h.low))
 replay_said job state told status.Violated output t h = absurd (omega (arith, h.low))
 replay_said job state told status.Done output t h = absurd (omega (arith, h.low))
@@ -176,7 +179,8 @@ replay_said job state told status.ReadFault output t h = absurd (omega (arith, h
 replay_said job state told status.WriteFault output t h = absurd (omega (arith, h.high))
 replay_said job state told status.NoMemory output t h = absurd (omega (arith, h.high))
 
-sat_said : (cnf : List ℕ) (budget : ℕ) (evidence : Option Evidence) (told : List ℕ → Option (List ℕ)) (ends : Status) (output : List ℕ) → Tells (formula_file cnf ∷ []) NoSecond (SatSays cnf budget evidence) told ends output → IsRefusal ends → output ≡ refusal_line ends
+sat_said : (cnf : List ℕ) (budget : ℕ) (evidence : Option Evidence) (told : List ℕ → Option (List ℕ)) (ends : Status) (output : List ℕ)
+    → Tells (formula_file cnf ∷ []) NoSecond (SatSays cnf budget evidence) told ends output → IsRefusal ends → output ≡ refusal_line ends
 sat_said cnf budget evidence told status.Holds output t h = absurd (omega (arith, h.low))
 sat_said cnf budget evidence told status.Violated output t h = absurd (omega (arith, h.low))
 sat_said cnf budget evidence told status.Done output t h = absurd (omega (arith, h.low))
@@ -193,7 +197,8 @@ sat_said cnf budget evidence told status.ReadFault output t h = absurd (omega (a
 sat_said cnf budget evidence told status.WriteFault output t h = absurd (omega (arith, h.high))
 sat_said cnf budget evidence told status.NoMemory output t h = absurd (omega (arith, h.high))
 
-proof_said : (cnf log : List ℕ) (told : List ℕ → Option (List ℕ)) (ends : Status) (output : List ℕ) → Tells (formula_file cnf ∷ formula_file log ∷ []) (HoldsFormulaOf cnf) (ProofSays cnf log) told ends output → IsRefusal ends → output ≡ refusal_line ends
+proof_said : (cnf log : List ℕ) (told : List ℕ → Option (List ℕ)) (ends : Status) (output : List ℕ)
+    → Tells (formula_file cnf ∷ formula_file log ∷ []) (HoldsFormulaOf cnf) (ProofSays cnf log) told ends output → IsRefusal ends → output ≡ refusal_line ends
 proof_said cnf log told status.Holds output t h = absurd (omega (arith, h.low))
 proof_said cnf log told status.Violated output t h = absurd (omega (arith, h.low))
 proof_said cnf log told status.Done output t h = absurd (omega (arith, h.low))
@@ -230,7 +235,8 @@ usage_said told status.NoMemory output t h = absurd (omega (arith, h.high))
 no_file : (slot : ℕ) (f : TextFile) → slice_get [] slot ≡ Some f → ⊥
 no_file slot f there = cc
 
-usage_cause : (told : List ℕ → Option (List ℕ)) (ends : Status) (output : List ℕ) → ends ≢ status.NoMemory → ends ≢ status.ReadFault → Tells [] NoSecond UsageSays told ends output → ends ≡ status.Usage
+usage_cause : (told : List ℕ → Option (List ℕ)) (ends : Status) (output : List ℕ) → ends ≢ status.NoMemory → ends ≢ status.ReadFault → Tells [] NoSecond UsageSays told ends output
+    → ends ≡ status.Usage
 usage_cause told status.Holds output no_want no_fault t = absurd t
 usage_cause told status.Violated output no_want no_fault t = absurd t
 usage_cause told status.Done output no_want no_fault t = absurd t
@@ -275,7 +281,8 @@ first_told told f fs all = has_bytes (told f.name) (All-head (λ (g : TextFile).
 second_told : (told : List ℕ → Option (List ℕ)) (f g : TextFile) (fs : List TextFile) → All (λ h. IsSome (told h.name)) (f ∷ g ∷ fs) → HasBytes (told g.name)
 second_told told f g fs all = first_told told g fs (All-tail (λ (h : TextFile). IsSome (told h.name)) f (g ∷ fs) all)
 
-pub one_status : (asked : Option Request) (told : List ℕ → Option (List ℕ)) (e d : Status) (o p : List ℕ) → IsTold asked told → IsAnswer asked told e o → IsAnswer asked told d p → AreOne asked e d o p
+pub one_status : (asked : Option Request) (told : List ℕ → Option (List ℕ)) (e d : Status) (o p : List ℕ) → IsTold asked told → IsAnswer asked told e o → IsAnswer asked told d p
+    → AreOne asked e d o p
 one_status None told e d o p is x y =
     equal _ e d o p (usage_cause told e o x.no_want x.no_fault x.tells ∙ sym (usage_cause told d p y.no_want y.no_fault y.tells)) (usage_said told e o x.tells) (usage_said told d p y.tells)
 one_status (Some (request.Bounds job schedule)) told e d o p is x y =

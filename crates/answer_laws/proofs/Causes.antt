@@ -88,17 +88,25 @@ pub data IsChecked (p : Posed) (ends : Status) : Type 0 where
 
 pub check_cause : (job : Job) (told : List ℕ → Option (List ℕ)) (bytes : List ℕ) (ends : Status) (output : List ℕ) → told job.file ≡ Some bytes → ends ≢ status.NoMemory → ends ≢ status.ReadFault
     → Tells (java_file job ∷ []) NoSecond (CheckSays job) told ends output → PosedCause IsChecked job bytes ends
-check_cause job told bytes status.Holds output is no_want no_fault t = let x : IsTried bytes job t.problem = at_told (λ b. IsTried b job t.problem) (told job.file) bytes is t.tried in record { found = Good t.problem; finds = x.posed; ends_is = holding refl x.plain t.not_violable }
-check_cause job told bytes status.Violated output is no_want no_fault t = let x : IsTried bytes job t.problem = at_told (λ b. IsTried b job t.problem) (told job.file) bytes is t.tried in record { found = Good t.problem; finds = x.posed; ends_is = broken_ refl x.plain (t.start, t.broken, t.violates) }
+check_cause job told bytes status.Holds output is no_want no_fault t =
+    let x : IsTried bytes job t.problem = at_told (λ b. IsTried b job t.problem) (told job.file) bytes is t.tried in
+    record { found = Good t.problem; finds = x.posed; ends_is = holding refl x.plain t.not_violable }
+check_cause job told bytes status.Violated output is no_want no_fault t =
+    let x : IsTried bytes job t.problem = at_told (λ b. IsTried b job t.problem) (told job.file) bytes is t.tried in
+    record { found = Good t.problem; finds = x.posed; ends_is = broken_ refl x.plain (t.start, t.broken, t.violates) }
 check_cause job told bytes status.Done output is no_want no_fault t = absurd t
 check_cause job told bytes status.Broken output is no_want no_fault t = absurd t
 check_cause job told bytes status.Usage output is no_want no_fault t = absurd t
-check_cause job told bytes status.NotBuilt output is no_want no_fault t = let x : IsNotTried bytes job = at_told (λ b. IsNotTried b job) (told job.file) bytes is t.1 in record { found = Good x.problem; finds = x.posed; ends_is = not_plain_ refl x.not_plain }
+check_cause job told bytes status.NotBuilt output is no_want no_fault t =
+    let x : IsNotTried bytes job = at_told (λ b. IsNotTried b job) (told job.file) bytes is t.1 in
+    record { found = Good x.problem; finds = x.posed; ends_is = not_plain_ refl x.not_plain }
 check_cause job told bytes (status.Source r) output is no_want no_fault t = record { found = Bad (Some r); finds = at_told (λ b. IsRefused b r) (told job.file) bytes is t.1; ends_is = refl }
 check_cause job told bytes status.NoMethod output is no_want no_fault t = record { found = Bad None; finds = at_told (λ b. LacksMethod b job) (told job.file) bytes is t.1; ends_is = refl }
 check_cause job told bytes (status.BadState at) output is no_want no_fault t = absurd t
 check_cause job told bytes (status.BadText slot at) output is no_want no_fault t = absurd t
-check_cause job told bytes (status.TooLong slot) output is no_want no_fault t = let l : FirstLong (java_file job) bytes slot = one_long (java_file job) told bytes slot is t.1 in record { found = Long; finds = l.long; ends_is = ap status.TooLong l.first }
+check_cause job told bytes (status.TooLong slot) output is no_want no_fault t =
+    let l : FirstLong (java_file job) bytes slot = one_long (java_file job) told bytes slot is t.1 in
+    record { found = Long; finds = l.long; ends_is = ap status.TooLong l.first }
 check_cause job told bytes status.Unknown output is no_want no_fault t = absurd t
 check_cause job told bytes status.ReadFault output is no_want no_fault t = absurd (no_fault refl)
 check_cause job told bytes status.WriteFault output is no_want no_fault t = absurd t
@@ -120,7 +128,15 @@ replay_long : (job : Job) (state : List ℕ) (told : List ℕ → Option (List �
     → TwoLong (java_file job) (state_file state) (HoldsProblemOf job told) bytes more slot → PosedCause (StateCause more) job bytes (status.TooLong slot)
 replay_long job state told bytes more slot is (first_long e l) = record { found = Long; finds = l; ends_is = ap status.TooLong e }
 replay_long job state told bytes more slot is (second_long e s l) =
-    record { found = Good s.problem; finds = at_told (λ b. IsPosed b job s.problem) (told job.file) bytes is s.holds.is; ends_is = record { found = Long; finds = l; ends_is = ap status.TooLong e } }
+    record {
+      found = Good s.problem;
+      finds = at_told (λ b. IsPosed b job s.problem) (told job.file) bytes is s.holds.is;
+      ends_is = record {
+        found = Long;
+        finds = l;
+        ends_is = ap status.TooLong e;
+      };
+    }
 
 replayed_cause : (job : Job) (state : List ℕ) (told : List ℕ → Option (List ℕ)) (bytes more : List ℕ) (ends : Status) (output : List ℕ) → told job.file ≡ Some bytes → told state ≡ Some more
     → IsReplayed told job state ends output → PosedCause (StateCause more) job bytes ends
@@ -132,19 +148,28 @@ replayed_cause job state told bytes more ends output is is' t =
     }
 
 pub replay_cause : (job : Job) (state : List ℕ) (told : List ℕ → Option (List ℕ)) (bytes more : List ℕ) (ends : Status) (output : List ℕ) → told job.file ≡ Some bytes → told state ≡ Some more
-    → ends ≢ status.NoMemory → ends ≢ status.ReadFault → Tells (java_file job ∷ state_file state ∷ []) (HoldsProblemOf job) (ReplaySays job state) told ends output → PosedCause (StateCause more) job bytes ends
+    → ends ≢ status.NoMemory → ends ≢ status.ReadFault → Tells (java_file job ∷ state_file state ∷ []) (HoldsProblemOf job) (ReplaySays job state) told ends output
+    → PosedCause (StateCause more) job bytes ends
 replay_cause job state told bytes more status.Holds output is is' no_want no_fault t = absurd t
 replay_cause job state told bytes more status.Violated output is is' no_want no_fault t = absurd t
 replay_cause job state told bytes more status.Done output is is' no_want no_fault t = replayed_cause job state told bytes more status.Done output is is' t
 replay_cause job state told bytes more status.Broken output is is' no_want no_fault t = replayed_cause job state told bytes more status.Broken output is is' t
 replay_cause job state told bytes more status.Usage output is is' no_want no_fault t = absurd t
 replay_cause job state told bytes more status.NotBuilt output is is' no_want no_fault t = absurd t
-replay_cause job state told bytes more (status.Source r) output is is' no_want no_fault t = record { found = Bad (Some r); finds = at_told (λ b. IsRefused b r) (told job.file) bytes is t.1; ends_is = refl }
-replay_cause job state told bytes more status.NoMethod output is is' no_want no_fault t = record { found = Bad None; finds = at_told (λ b. LacksMethod b job) (told job.file) bytes is t.1; ends_is = refl }
-replay_cause job state told bytes more (status.BadState at) output is is' no_want no_fault t = let x : LacksState told job state at = t.1 in record { found = Good x.problem; finds = at_told (λ b. IsPosed b job x.problem) (told job.file) bytes is x.posed.is;
-    ends_is = record { found = Bad at; finds = at_told (λ b. IsNoState x.problem b at) (told state) more is' x.no_state; ends_is = refl } }
+replay_cause job state told bytes more (status.Source r) output is is' no_want no_fault t =
+    record { found = Bad (Some r); finds = at_told (λ b. IsRefused b r) (told job.file) bytes is t.1; ends_is = refl }
+replay_cause job state told bytes more status.NoMethod output is is' no_want no_fault t =
+    record { found = Bad None; finds = at_told (λ b. LacksMethod b job) (told job.file) bytes is t.1; ends_is = refl }
+replay_cause job state told bytes more (status.BadState at) output is is' no_want no_fault t =
+    let x : LacksState told job state at = t.1 in
+    record {
+      found = Good x.problem;
+      finds = at_told (λ b. IsPosed b job x.problem) (told job.file) bytes is x.posed.is;
+      ends_is = record { found = Bad at; finds = at_told (λ b. IsNoState x.problem b at) (told state) more is' x.no_state; ends_is = refl };
+    }
 replay_cause job state told bytes more (status.BadText slot at) output is is' no_want no_fault t = absurd t
-replay_cause job state told bytes more (status.TooLong slot) output is is' no_want no_fault t = replay_long job state told bytes more slot is (two_long (java_file job) (state_file state) (HoldsProblemOf job told) told bytes more slot is is' t.1)
+replay_cause job state told bytes more (status.TooLong slot) output is is' no_want no_fault t =
+    replay_long job state told bytes more slot is (two_long (java_file job) (state_file state) (HoldsProblemOf job told) told bytes more slot is is' t.1)
 replay_cause job state told bytes more status.Unknown output is is' no_want no_fault t = absurd t
 replay_cause job state told bytes more status.ReadFault output is is' no_want no_fault t = absurd (no_fault refl)
 replay_cause job state told bytes more status.WriteFault output is is' no_want no_fault t = absurd t
@@ -168,11 +193,13 @@ pub data IsSearchEnd (budget : ℕ) (c : Clauses) (ends : Status) : Type 0 where
   found_out : ends ≡ status.Done → IsSearchEnd budget c ends
   gave_up : ends ≡ status.Unknown → 0 < budget → IsSearchEnd budget c ends
 
-pub sat_cause : (cnf : List ℕ) (budget : ℕ) (evidence : Option Evidence) (told : List ℕ → Option (List ℕ)) (bytes : List ℕ) (ends : Status) (output : List ℕ) → told cnf ≡ Some bytes → ends ≢ status.NoMemory → ends ≢ status.ReadFault
+pub sat_cause : (cnf : List ℕ) (budget : ℕ) (evidence : Option Evidence) (told : List ℕ → Option (List ℕ)) (bytes : List ℕ) (ends : Status) (output : List ℕ) → told cnf ≡ Some bytes
+    → ends ≢ status.NoMemory → ends ≢ status.ReadFault
     → Tells (formula_file cnf ∷ []) NoSecond (SatSays cnf budget evidence) told ends output → FormulaCause (IsSearchEnd budget) bytes ends
 sat_cause cnf budget evidence told bytes status.Holds output is no_want no_fault t = absurd t
 sat_cause cnf budget evidence told bytes status.Violated output is no_want no_fault t = absurd t
-sat_cause cnf budget (Some e) told bytes status.Done output is no_want no_fault t = record { found = Good e.cnf; finds = at_told (λ b. IsFormula b e.cnf) (told cnf) bytes is t.cnf_is; ends_is = found_out refl }
+sat_cause cnf budget (Some e) told bytes status.Done output is no_want no_fault t =
+    record { found = Good e.cnf; finds = at_told (λ b. IsFormula b e.cnf) (told cnf) bytes is t.cnf_is; ends_is = found_out refl }
 sat_cause cnf budget None told bytes status.Done output is no_want no_fault t = absurd t
 sat_cause cnf budget evidence told bytes status.Broken output is no_want no_fault t = absurd t
 sat_cause cnf budget evidence told bytes status.Usage output is no_want no_fault t = absurd t
@@ -180,9 +207,13 @@ sat_cause cnf budget evidence told bytes status.NotBuilt output is no_want no_fa
 sat_cause cnf budget evidence told bytes (status.Source r) output is no_want no_fault t = absurd t
 sat_cause cnf budget evidence told bytes status.NoMethod output is no_want no_fault t = absurd t
 sat_cause cnf budget evidence told bytes (status.BadState at) output is no_want no_fault t = absurd t
-sat_cause cnf budget evidence told bytes (status.BadText slot at) output is no_want no_fault t = record { found = Bad at; finds = at_told (λ b. IsNoFormula b at) (told cnf) bytes is t.2; ends_is = ap (λ (n : ℕ). status.BadText n at) t.1 }
-sat_cause cnf budget evidence told bytes (status.TooLong slot) output is no_want no_fault t = let l : FirstLong (formula_file cnf) bytes slot = one_long (formula_file cnf) told bytes slot is t.1 in record { found = Long; finds = l.long; ends_is = ap status.TooLong l.first }
-sat_cause cnf budget (Some e) told bytes status.Unknown output is no_want no_fault t = record { found = Good e.cnf; finds = at_told (λ b. IsFormula b e.cnf) (told cnf) bytes is t.cnf_is; ends_is = gave_up refl t.verdict.spends.some }
+sat_cause cnf budget evidence told bytes (status.BadText slot at) output is no_want no_fault t =
+    record { found = Bad at; finds = at_told (λ b. IsNoFormula b at) (told cnf) bytes is t.2; ends_is = ap (λ (n : ℕ). status.BadText n at) t.1 }
+sat_cause cnf budget evidence told bytes (status.TooLong slot) output is no_want no_fault t =
+    let l : FirstLong (formula_file cnf) bytes slot = one_long (formula_file cnf) told bytes slot is t.1 in
+    record { found = Long; finds = l.long; ends_is = ap status.TooLong l.first }
+sat_cause cnf budget (Some e) told bytes status.Unknown output is no_want no_fault t =
+    record { found = Good e.cnf; finds = at_told (λ b. IsFormula b e.cnf) (told cnf) bytes is t.cnf_is; ends_is = gave_up refl t.verdict.spends.some }
 sat_cause cnf budget None told bytes status.Unknown output is no_want no_fault t = absurd t
 sat_cause cnf budget evidence told bytes status.ReadFault output is no_want no_fault t = absurd (no_fault refl)
 sat_cause cnf budget evidence told bytes status.WriteFault output is no_want no_fault t = absurd t
@@ -225,7 +256,8 @@ done_valid c steps output (inr x) = x.log
 
 bad_cause : (cnf log : List ℕ) (told : List ℕ → Option (List ℕ)) (bytes more : List ℕ) (slot at : ℕ) → told cnf ≡ Some bytes → told log ≡ Some more → LiesIn told cnf log slot at
     → FormulaCause (LogCause more) bytes (status.BadText slot at)
-bad_cause cnf log told bytes more slot at is is' (inl x) = record { found = Bad at; finds = at_told (λ b. IsNoFormula b at) (told cnf) bytes is x.1; ends_is = ap (λ (n : ℕ). status.BadText n at) x.0 }
+bad_cause cnf log told bytes more slot at is is' (inl x) =
+    record { found = Bad at; finds = at_told (λ b. IsNoFormula b at) (told cnf) bytes is x.1; ends_is = ap (λ (n : ℕ). status.BadText n at) x.0 }
 bad_cause cnf log told bytes more slot at is is' (inr x) =
     record {
       found = Good x.0;
@@ -234,10 +266,12 @@ bad_cause cnf log told bytes more slot at is is' (inr x) =
     }
 
 pub proof_cause : (cnf log : List ℕ) (told : List ℕ → Option (List ℕ)) (bytes more : List ℕ) (ends : Status) (output : List ℕ) → told cnf ≡ Some bytes → told log ≡ Some more
-    → ends ≢ status.NoMemory → ends ≢ status.ReadFault → Tells (formula_file cnf ∷ formula_file log ∷ []) (HoldsFormulaOf cnf) (ProofSays cnf log) told ends output → FormulaCause (LogCause more) bytes ends
+    → ends ≢ status.NoMemory → ends ≢ status.ReadFault → Tells (formula_file cnf ∷ formula_file log ∷ []) (HoldsFormulaOf cnf) (ProofSays cnf log) told ends output
+    → FormulaCause (LogCause more) bytes ends
 proof_cause cnf log told bytes more status.Holds output is is' no_want no_fault t = absurd t
 proof_cause cnf log told bytes more status.Violated output is is' no_want no_fault t = absurd t
-proof_cause cnf log told bytes more status.Done output is is' no_want no_fault t = judged_cause cnf log told bytes more status.Done output is is' t (following refl (done_valid t.formula t.steps output t.verdict))
+proof_cause cnf log told bytes more status.Done output is is' no_want no_fault t =
+    judged_cause cnf log told bytes more status.Done output is is' t (following refl (done_valid t.formula t.steps output t.verdict))
 proof_cause cnf log told bytes more status.Broken output is is' no_want no_fault t = judged_cause cnf log told bytes more status.Broken output is is' t (breaking refl t.verdict.n t.verdict.first)
 proof_cause cnf log told bytes more status.Usage output is is' no_want no_fault t = absurd t
 proof_cause cnf log told bytes more status.NotBuilt output is is' no_want no_fault t = absurd t
@@ -245,7 +279,8 @@ proof_cause cnf log told bytes more (status.Source r) output is is' no_want no_f
 proof_cause cnf log told bytes more status.NoMethod output is is' no_want no_fault t = absurd t
 proof_cause cnf log told bytes more (status.BadState at) output is is' no_want no_fault t = absurd t
 proof_cause cnf log told bytes more (status.BadText slot at) output is is' no_want no_fault t = bad_cause cnf log told bytes more slot at is is' t.1
-proof_cause cnf log told bytes more (status.TooLong slot) output is is' no_want no_fault t = proof_long cnf log told bytes more slot is (two_long (formula_file cnf) (formula_file log) (HoldsFormulaOf cnf told) told bytes more slot is is' t.1)
+proof_cause cnf log told bytes more (status.TooLong slot) output is is' no_want no_fault t =
+    proof_long cnf log told bytes more slot is (two_long (formula_file cnf) (formula_file log) (HoldsFormulaOf cnf told) told bytes more slot is is' t.1)
 proof_cause cnf log told bytes more status.Unknown output is is' no_want no_fault t = absurd t
 proof_cause cnf log told bytes more status.ReadFault output is is' no_want no_fault t = absurd (no_fault refl)
 proof_cause cnf log told bytes more status.WriteFault output is is' no_want no_fault t = absurd t

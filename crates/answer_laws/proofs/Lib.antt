@@ -5,3 +5,4 @@ pub mod Found
 pub mod Texts
 pub mod Causes
 pub mod Answering
+pub mod Running

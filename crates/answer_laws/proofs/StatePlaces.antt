@@ -12,7 +12,8 @@ use Rattle.heap_core.specs.declared.value.Object.{Object}
 use Rattle.heap_core.specs.declared.start.Start.{Start}
 use Rattle.heap_core.specs.Posed.{Posed}
 use Rattle.taco_report.specs.Texts.{argument_line, object_line, objects_line, params_of, this_line}
-use Rattle.taco_report.specs.States.{HasArguments, HasObjects, IsBadState, IsStateText, NoLine, argument_lines, is_given, is_listed, is_receiver_named, no_argument, no_count, no_object, no_receiver, object_lines, too_many, unfit}
+use Rattle.taco_report.specs.States.{HasArguments, HasObjects, IsBadState, IsStateText, NoLine, argument_lines, is_given, is_listed}
+use Rattle.taco_report.specs.States.{is_receiver_named, no_argument, no_count, no_object, no_receiver, object_lines, too_many, unfit}
 use Rattle.taco_report.proofs.OneStart.{SameCount, SameObject, SameObjects, same_argument, same_count, same_object, same_objects, same_receiver}
 use Rattle.taco_report.proofs.Values.{SameValue}
 
@@ -57,7 +58,8 @@ record NextObject (p : Posed) (n number : ℕ) (rest : List ℕ) : Type 0 where
   rest_is : rest ≡ object_line p (number, object) ++ behind
 
 -- behind the lines of the first objects of a heap stands that of the next one
-next_object : (p : Posed) (n k number : ℕ) (xs ys : List Object) (rest more : List ℕ) → n < 2 ^ 64 → IsWell p.unit → list_all (is_listed p.unit n) xs ≡ true → list_all (is_listed p.unit n) ys ≡ true
+next_object : (p : Posed) (n k number : ℕ) (xs ys : List Object) (rest more : List ℕ) → n < 2 ^ 64 → IsWell p.unit → list_all (is_listed p.unit n) xs ≡ true
+    → list_all (is_listed p.unit n) ys ≡ true
     → length xs < length ys → number ≡ k + length xs → flat_map (object_line p) (enumerate_from k ys) ++ more ≡ flat_map (object_line p) (enumerate_from k xs) ++ rest → NextObject p n number rest
 next_object p n k number xs [] rest more small well all_x all_y less place same = absurd (omega arith)
 next_object p n k number [] (y ∷ ys) rest more small well all_x all_y less place same =
@@ -74,7 +76,8 @@ next_object p n k number (x ∷ xs) (y ∷ ys) rest more small well all_x all_y 
     let of_y : (is_listed p.unit n y ≡ true) × (list_all (is_listed p.unit n) ys ≡ true) = and_parts (is_listed p.unit n y) (list_all (is_listed p.unit n) ys) all_y in
     let h : SameObject y x (flat_map (object_line p) (enumerate_from (k + 1) ys) ++ more) (flat_map (object_line p) (enumerate_from (k + 1) xs) ++ rest) =
     same_object p n k y x _ _ small well of_y.0 of_x.0
-    (sym (append_assoc (object_line p (k, y)) (flat_map (object_line p) (enumerate_from (k + 1) ys)) more) ∙ same ∙ append_assoc (object_line p (k, x)) (flat_map (object_line p) (enumerate_from (k + 1) xs)) rest) in
+    (sym (append_assoc (object_line p (k, y)) (flat_map (object_line p) (enumerate_from (k + 1) ys)) more) ∙ same
+    ∙ append_assoc (object_line p (k, x)) (flat_map (object_line p) (enumerate_from (k + 1) xs)) rest) in
     next_object p n (k + 1) number xs ys rest more small well of_x.1 of_y.1 (omega arith) (omega arith) h.rest
 
 -- behind the first line
@@ -127,7 +130,8 @@ record NextArgument (n : ℕ) (qs : List ParamDef) (k : ℕ) (rest : List ℕ) :
 
 -- behind the lines of the first arguments stands that of the next one
 next_argument : (n : ℕ) (qs : List ParamDef) (vs ws : List Value) (rest more : List ℕ) → n < 2 ^ 64 → pointwise (is_given n) (take (length vs) qs) vs ≡ true
-    → pointwise (is_given n) (take (length ws) qs) ws ≡ true → length vs < length ws → flat_map argument_line (zip qs vs) ++ rest ≡ flat_map argument_line (zip qs ws) ++ more → NextArgument n qs (length vs) rest
+    → pointwise (is_given n) (take (length ws) qs) ws ≡ true → length vs < length ws → flat_map argument_line (zip qs vs) ++ rest ≡ flat_map argument_line (zip qs ws) ++ more
+    → NextArgument n qs (length vs) rest
 next_argument n qs vs [] rest more small of_v of_w longer same = absurd (omega arith)
 next_argument n [] vs (w ∷ ws) rest more small of_v of_w longer same = absurd (false≢true of_w)
 next_argument n (r ∷ qs) [] (w ∷ ws) rest more small of_v of_w longer same =
@@ -211,7 +215,8 @@ shown p text at (unfit s is misfits at_is) =
 not_bare : (p : Posed) (n : ℕ) (xs : List Object) (text front rest : List ℕ) → HasObjects p n xs front → text ≡ front ++ rest → NoLine (λ n. nat_lt n 13) objects_line text → ⊥
 not_bare p n xs text front rest has is none = none n (object_lines p xs ++ rest) (lt-ltb n 13 (omega (arith, has.few))) (heap_opened p n xs text front rest has is)
 
-heap_and_arguments : (p : Posed) (text : List ℕ) (n m : ℕ) (xs ys : List Object) (this : Value) (ws : List Value) (front rest front' rest' : List ℕ) → IsWell p.unit → HasObjects p n xs front → length xs ≤ n
+heap_and_arguments : (p : Posed) (text : List ℕ) (n m : ℕ) (xs ys : List Object) (this : Value) (ws : List Value) (front rest front' rest' : List ℕ) → IsWell p.unit
+    → HasObjects p n xs front → length xs ≤ n
     → text ≡ front ++ rest → (length xs < n → NoLine (is_listed p.unit n) (λ x. object_line p (length xs, x)) rest) → (length xs ≡ n → NoLine (is_receiver_named p n) this_line rest)
     → HasArguments p m ys this ws front' → text ≡ front' ++ rest' → ⊥
 heap_and_arguments p text n m xs ys this ws front rest front' rest' well has few is next receiver has' is' = by_order (order (length xs) (length ys))
@@ -233,8 +238,10 @@ pub one_shown : (p : Posed) (text : List ℕ) (a b : ℕ) → IsWell p.unit → 
 one_shown p text a b well (bare x none) (bare y none') = omega (arith, x, y)
 one_shown p text a b well (bare x none) (heaped n xs front rest has few is at_is next receiver) = absurd (not_bare p n xs text front rest has is none)
 one_shown p text a b well (heaped n xs front rest has few is at_is next receiver) (bare x none) = absurd (not_bare p n xs text front rest has is none)
-one_shown p text a b well (bare x none) (argued n xs this vs front rest has is at_is next) = absurd (not_bare p n xs text has.heap _ has.objects (arguments_opened p n xs this vs text front rest has is) none)
-one_shown p text a b well (argued n xs this vs front rest has is at_is next) (bare x none) = absurd (not_bare p n xs text has.heap _ has.objects (arguments_opened p n xs this vs text front rest has is) none)
+one_shown p text a b well (bare x none) (argued n xs this vs front rest has is at_is next) =
+    absurd (not_bare p n xs text has.heap _ has.objects (arguments_opened p n xs this vs text front rest has is) none)
+one_shown p text a b well (argued n xs this vs front rest has is at_is next) (bare x none) =
+    absurd (not_bare p n xs text has.heap _ has.objects (arguments_opened p n xs this vs text front rest has is) none)
 one_shown p text a b well (heaped n xs front rest has few is at_is next receiver) (argued m ys this ws front' rest' has' is' at_is' next') =
     absurd (heap_and_arguments p text n m xs ys this ws front rest front' rest' well has few is next receiver has' is')
 one_shown p text a b well (argued m ys this ws front' rest' has' is' at_is' next') (heaped n xs front rest has few is at_is next receiver) =

@@ -8,6 +8,10 @@ use Rattle.evidence.specs.declared.Evidence.{Evidence}
 use Rattle.taco_report.specs.declared.status.Status.{Status}
 use Rattle.taco_report.specs.declared.status.Status.TheVariants as status
 use Rattle.taco_report.specs.Statuses.{IsRefusal}
+use Rattle.taco_io.specs.Shelf.{Shelf}
+use Rattle.taco_io.specs.Taken.{Taken}
+use Rattle.taco_run.specs.declared.answer.Answer.{Answer}
+use Rattle.taco_run.specs.Headline.{Runs}
 use Rattle.taco_run.specs.Requests.{files_of, Second, Says}
 use Rattle.taco_words.specs.declared.request.Request.{Request}
 use Rattle.taco_words.specs.declared.request.Request.TheVariants as request
@@ -44,4 +48,17 @@ pub record AreOne (asked : Option Request) (ends ends' : Status) (output output'
 
 -- the law
 abbrev pub OneStatus : Option Request → (told : List ℕ → Option (List ℕ)) → Type 0
-OneStatus asked told = (ends ends' : Status) (output output' : List ℕ) → IsTold asked told → IsAnswer asked told ends output → IsAnswer asked told ends' output' → AreOne asked ends ends' output output'
+OneStatus asked told =
+    (ends ends' : Status) (output output' : List ℕ) → IsTold asked told → IsAnswer asked told ends output → IsAnswer asked told ends' output' → AreOne asked ends ends' output output'
+
+-- a call that was heard to its end: nothing was wanting, and no read and no push failed
+pub record IsHeard (ends : Status) : Type 0 where
+  pub no_want : ends ≢ status.NoMemory
+  pub no_fault : ends ≢ status.ReadFault
+  pub no_cut : ends ≢ status.WriteFault
+
+-- so for two calls over the same contents
+abbrev pub OneRun : Option Request → Type 0
+OneRun asked = (answer answer' : Answer) (old new old' new' : Shelf) (before after before' after' : Taken) → IsTold asked old.content → ((name : List ℕ) → old.content name ≡ old'.content name)
+    → (x : Runs asked answer old new before after) → (y : Runs asked answer' old' new' before' after') → IsHeard answer.status → IsHeard answer'.status
+    → AreOne asked answer.status answer'.status x.output y.output

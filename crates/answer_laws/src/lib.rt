@@ -1,6 +1,6 @@
-//! The laws of what requests answer.
+//! What is so of any two answers to one request.
 #![tactic(auto)]
 
 mod laws;
 
-pub use laws::a_fault_has_one_place;
+pub use laws::{a_refused_text_has_one_place, one_request_has_one_status};

@@ -3,8 +3,7 @@ use Rattle.derivation.specs.Runs.{words_of}
 use Rattle.answer_laws.proofs.StatePlaces.{one_place}
 use Rattle.answer_laws.proofs.FormulaPlaces.{one_fault}
 use Rattle.answer_laws.proofs.LogPlaces.{one_bad}
-use Rattle.answer_laws.proofs.Texts.{java_told, formula_told, log_told, state_told}
-use Rattle.answer_laws.proofs.laws.a_fault_has_one_place.Goals as goal
+use Rattle.answer_laws.proofs.laws.a_refused_text_has_one_place.Goals as goal
 
 pub returns-clause-state : goal.returns-clause-state
 returns-clause-state c = λ p text a b well x y. one_place p text a b well x y
