@@ -1,12 +1,11 @@
 -- Two answers to one request have one status.
-use Rattle.std.proofs.Common.{◌≡◌, ◌≢◌, ℕ, ◌^◌, ◌<◌, ◌≤◌, List, [], ◌∷◌, All, Bool, true, false, Option, Some, None, refl, sym, ap, subst, ◌∙◌, arith}
+use Rattle.std.proofs.Common.{◌≡◌, ◌≢◌, ℕ, ◌<◌, List, [], ◌∷◌, All, Option, Some, None, refl, sym, ap, subst, ◌∙◌, arith}
 use Rattle.std.specs.Prelude.{IsSome, slice_get}
 use Rattle.std.proofs.lemmas.List.Elements.{All-head, All-tail}
 use Rattle.check_command.specs.CheckCommand.{CheckSays}
 use Rattle.cnf_core.specs.Clauses.{Clauses}
-use Rattle.command_files.specs.Answers.{IsOverLong, NoSecond, Tells}
+use Rattle.command_files.specs.Answers.{NoSecond, Tells}
 use Rattle.command_files.specs.Slots.{TextFile}
-use Rattle.derivation.specs.Logs.{Valid}
 use Rattle.derivation.specs.Step.{Step}
 use Rattle.derivation.proofs.LogLemmas.{none_bad}
 use Rattle.evidence.specs.declared.Evidence.{Evidence}
@@ -300,7 +299,8 @@ one_status (Some (request.Replay job state)) told e d o p is x y =
     let second : HasBytes (told state) = second_told told (java_file job) (state_file state) [] is.files in
     let one : e ≡ d =
     one_posed (StateCause second.bytes) job first.bytes e d (λ q posed. replay_once first.bytes second.bytes job q e d is.within.scope posed)
-    (replay_cause job state told first.bytes second.bytes e o first.is second.is x.no_want x.no_fault x.tells) (replay_cause job state told first.bytes second.bytes d p first.is second.is y.no_want y.no_fault y.tells) in
+    (replay_cause job state told first.bytes second.bytes e o first.is second.is x.no_want x.no_fault x.tells)
+    (replay_cause job state told first.bytes second.bytes d p first.is second.is y.no_want y.no_fault y.tells) in
     equal _ e d o p one (replay_said job state told e o x.tells) (replay_said job state told d p y.tells)
 one_status (Some (request.Sat cnf budget)) told e d o p is x y =
     let first : HasBytes (told cnf) = first_told told (formula_file cnf) [] is.files in
@@ -316,5 +316,6 @@ one_status (Some (request.Proof cnf log)) told e d o p is x y =
     let second : HasBytes (told log) = second_told told (formula_file cnf) (formula_file log) [] is.files in
     let one : e ≡ d =
     one_formula (LogCause second.bytes) first.bytes e d (e ≡ d) (λ same. same) (λ c formula. log_once first.bytes second.bytes c e d formula)
-    (proof_cause cnf log told first.bytes second.bytes e o first.is second.is x.no_want x.no_fault x.tells) (proof_cause cnf log told first.bytes second.bytes d p first.is second.is y.no_want y.no_fault y.tells) in
+    (proof_cause cnf log told first.bytes second.bytes e o first.is second.is x.no_want x.no_fault x.tells)
+    (proof_cause cnf log told first.bytes second.bytes d p first.is second.is y.no_want y.no_fault y.tells) in
     equal _ e d o p one (proof_said cnf log told e o x.tells) (proof_said cnf log told d p y.tells)

@@ -1,6 +1,6 @@
 -- What each request finds in its files, and the status that this calls for.
-use Rattle.std.proofs.Common.{◌≡◌, ◌≢◌, ℕ, zero, suc, ◌<◌, ◌≤◌, ◌⊎◌, List, [], ◌∷◌, length, All, Option, Some, None, IfSome, refl, sym, ap, subst, inl, inr, ◌∙◌, arith}
-use Rattle.std.specs.Prelude.{slice_get, IsSomeAnd}
+use Rattle.std.proofs.Common.{◌≡◌, ◌≢◌, ℕ, zero, suc, ◌<◌, ◌⊎◌, List, [], ◌∷◌, length, Option, Some, None, IfSome, refl, sym, ap, subst, inl, inr, arith}
+use Rattle.std.specs.Prelude.{slice_get}
 use Rattle.boolean_trial.specs.Plain.{IsPlain}
 use Rattle.check_command.specs.CheckCommand.{CheckSays, IsNotTried, IsTried}
 use Rattle.cnf_core.specs.Clauses.{Clauses}

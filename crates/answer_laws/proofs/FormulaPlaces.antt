@@ -2,9 +2,9 @@
 use Rattle.std.proofs.Common.{◌≡◌, ℕ, suc, zero, true, ◌⊎◌, List, [], ◌∷◌, ◌++◌, refl, sym, ap, subst, inl, inr, ◌∙◌}
 use Rattle.std.specs.List.{list_all}
 use Rattle.std.proofs.lemmas.Bool.{and_parts, and_from}
-use Rattle.std.proofs.lemmas.List.{append_assoc, append-nil, map-append}
+use Rattle.std.proofs.lemmas.List.{append_assoc, map-append}
 use Rattle.derivation.specs.declared.fault.TextFault.TheVariants.{BadText}
-use Rattle.derivation.specs.CnfText.{cnf_words, spelling, in_line, placed, Begin, IsWrongWord, IsShort, BlamesWords}
+use Rattle.derivation.specs.CnfText.{spelling, in_line, placed, Begin, IsWrongWord, IsShort, BlamesWords}
 use Rattle.derivation.specs.Runs.{Run, is_blank}
 
 in_line_front : (n : ℕ) (xs ys : List Run) → in_line n (xs ++ ys) ≡ true → in_line n xs ≡ true

@@ -1,5 +1,5 @@
 -- Two calls for one request over the same contents end with one status.
-use Rattle.std.proofs.Common.{◌≡◌, ◌≢◌, ℕ, ◌⊎◌, List, Option, refl, sym, subst, inl, inr, ◌∙◌}
+use Rattle.std.proofs.Common.{◌≡◌, ◌≢◌, ℕ, List, Option, sym, subst, inl, inr}
 use mathlib.Core.Path.{fun_ext}
 use Rattle.command_files.specs.Answers.{Tells}
 use Rattle.taco_io.specs.Shelf.{Shelf}

@@ -5,17 +5,14 @@ use Rattle.std.proofs.lemmas.List.Quantifiers.{position-Some}
 use Rattle.cnf_core.specs.Clauses.{Clauses}
 use Rattle.declared_names.specs.Seen.{Seen, Stands, Faulty as FaultySeen, over}
 use Rattle.derivation.specs.Runs.{words_of}
-use Rattle.derivation.specs.Step.{Step}
-use Rattle.heap_core.specs.declared.start.Start.{Start}
 use Rattle.heap_core.specs.Posed.{InRange, Posed}
-use Rattle.heap_core.specs.Start.{Fits}
 use Rattle.formula_commands.specs.Texts.{text_limit, IsFormula, IsNoFormula, IsLog, IsNoLog}
 use Rattle.posed_files.specs.Problems.{java_limit, IsPosed, IsRefused, LacksMethod, Names}
 use Rattle.refusals.specs.declared.refusal.Refusal.{Refusal}
 use Rattle.replay_command.specs.ReplayCommand.{state_limit, IsNoState, IsState}
 use Rattle.source_units.proofs.OneVerdict.{one}
 use Rattle.source_units.specs.Reading.{Reads, Faulty}
-use Rattle.source_units.specs.Told.{Verdict, Unit_, Fault_}
+use Rattle.source_units.specs.Told.{Unit_, Fault_}
 use Rattle.taco_report.proofs.FittingStarts.{fitting_text}
 use Rattle.taco_report.proofs.OneStart.{one_start}
 use Rattle.taco_unit.specs.Named.{class_number, is_method_named, method_number}
