@@ -1,6 +1,6 @@
 -- How each expression and each call of code ends over a well unit, where methods that are run end so.
 use Rattle.std.proofs.Common.{◌≡◌, ℕ, Bool, true, false, List, [], ◌∷◌, Option, Some, None, refl, sym, ◌∙◌, ap, subst}
-use Rattle.std.specs.Prelude.{ℤ, not, ◌&&◌, nat_lt, map, length, slice_get, option_map}
+use Rattle.std.specs.Prelude.{not, ◌&&◌, nat_lt, map, length, slice_get, option_map}
 use Rattle.std.specs.Cmp.Lexicographic.{pointwise}
 use Rattle.std.proofs.lemmas.Bool.{false≢true, and_parts, and_from}
 use Rattle.taco_unit.specs.declared.kind.Kind.{Kind}
@@ -13,21 +13,24 @@ use Rattle.taco_unit.specs.declared.expr.Quant.{Quant}
 use Rattle.taco_unit.specs.declared.expr.Reach.{Reach}
 use Rattle.taco_unit.specs.declared.unit.MethodDef.{MethodDef}
 use Rattle.taco_unit.specs.declared.unit.ParamDef.{ParamDef}
-use Rattle.taco_unit.specs.Kinds.{Sort, Of, NullOnly, Faulty, NoValue, Sorted, Around, suits, where_, sort_of, sort_of_kind, sort_of_class, field_sort, binary_sort, operator_sort, in_code, in_clause, in_exit, has_sort, size_sort, past, is_object_of, is_target, are_arguments, result_sort}
+use Rattle.taco_unit.specs.Kinds.{Sort, Of, NullOnly, Faulty, NoValue, Sorted, Around, suits, where_, sort_of, sort_of_kind, sort_of_class, field_sort, binary_sort, operator_sort}
+use Rattle.taco_unit.specs.Kinds.{in_code, is_object_of, are_arguments, result_sort}
 use Rattle.taco_unit.specs.Well.{IsWell, receiver_of, result_kind}
-use Rattle.taco_unit.proofs.KindForms.{sort_of_call, called_as, is_target_of, sort_num, sort_flag, sort_null, sort_this, sort_result, sort_local, sort_bound, sort_read, sort_neg, sort_not, sort_bin, sort_quant, sort_old, sort_has, sort_size, sort_new, sort_call, call_form as call_sorted}
+use Rattle.taco_unit.proofs.KindForms.{sort_of_call, called_as, is_target_of, sort_num, sort_flag, sort_null, sort_this, sort_local, sort_read, sort_neg, sort_not, sort_bin}
+use Rattle.taco_unit.proofs.KindForms.{sort_new, sort_call, call_form as call_sorted}
 use Rattle.heap_core.specs.declared.value.Value.{Value}
-use Rattle.heap_core.specs.declared.value.Value.TheVariants.{Null, Obj, Num, Flag}
+use Rattle.heap_core.specs.declared.value.Value.TheVariants.{Null, Obj, Flag}
 use Rattle.heap_core.specs.Posed.{Posed}
 use Rattle.heap_core.specs.Outcomes.{number, negative, opposite}
 use Rattle.heap_core.specs.Heap.{Heap}
 use Rattle.heap_core.specs.Start.{has_kind}
 use Rattle.heap_core.specs.Exec.{Memory, Ends, Gives, Leaves, Frame, Code, Run, then_with, ends_as, on_object, gives_in, read, make, combined, in_order, target_of, entered, code, call_of}
 use Rattle.heap_core.proofs.Lists.{beside_more}
-use Rattle.heap_core.proofs.ExecForms.{code_num, code_flag, code_null, code_this, code_local, code_read, code_neg, code_not, code_bin, code_new, code_call, code_result, code_bound, code_quant, code_old, code_has, code_size, call_form}
+use Rattle.heap_core.proofs.ExecForms.{code_num, code_flag, code_null, code_this, code_local, code_read, code_neg, code_not, code_bin, code_new, code_call, code_result, code_bound}
+use Rattle.heap_core.proofs.ExecForms.{code_quant, code_old, code_has, code_size, call_form}
 use Rattle.dyn_core.proofs.Fitting.{number_only}
 use Rattle.dyn_plan.specs.Endings.{ComesAfter, IsOfKind}
-use Rattle.dyn_plan.proofs.EndParts.{later_self, IsKind, kind_later, Ended, ended_then, HoldsIn, holds_later, where_suits, in_code_suits, in_clause_never, in_exit_never, as_kind, kinds_same, seen_ends, object_ends, make_ends}
+use Rattle.dyn_plan.proofs.EndParts.{later_self, IsKind, kind_later, Ended, ended_then, HoldsIn, holds_later, where_suits, in_code_suits, as_kind, kinds_same, seen_ends, object_ends, make_ends}
 use Rattle.dyn_plan.proofs.EndExprs.{CodeEnds, one_ends, negative_only, opposite_only, field_ends, combined_ends, local_ends}
 
 -- ## methods that are run
@@ -65,11 +68,12 @@ arguments_end p run (q ∷ qs) (a ∷ as_) k fr m claims holds whole fits =
     let rest : Value → Memory → Ends (List Value) = λ v n. then_with (in_order (map (code p run) as_) fr n) (λ vs l. Gives (v ∷ vs) l) in
     ended_then p m.heap (IsKind p q.kind) (AreParams p (q ∷ qs)) (code p run a fr m) rest (claims.0.ends k fr m q.kind holds whole both.0)
     (λ v n after is.
-        ended_then p n.heap (AreParams p qs) (AreParams p (q ∷ qs)) (in_order (map (code p run) as_) fr n) (λ vs l. Gives (v ∷ vs) l)
-        (arguments_end p run qs as_ k fr n claims.1 (holds_later p k fr m.heap n.heap after holds) (later_self p m.heap n.heap after) both.1)
-        (λ vs l later are.
-            (later_self p n.heap l.heap later,
-            and_from (fits_param p.scope.ints l.heap q v) (pointwise (fits_param p.scope.ints l.heap) qs vs) (kind_later p n.heap l.heap q.kind v later is) are)))
+    ended_then p n.heap (AreParams p qs) (AreParams p (q ∷ qs)) (in_order (map (code p run) as_) fr n) (λ vs l. Gives (v ∷ vs) l)
+    (arguments_end p run qs as_ k fr n claims.1 (holds_later p k fr m.heap n.heap after holds) (later_self p m.heap n.heap after) both.1)
+    (λ vs l later are. (
+      later_self p n.heap l.heap later,
+      and_from (fits_param p.scope.ints l.heap q v) (pointwise (fits_param p.scope.ints l.heap) qs vs) (kind_later p n.heap l.heap q.kind v later is) are,
+    )))
 
 -- a target that suits the method
 abbrev IsTarget : Posed → MethodDef → Option Value → Heap → Type 0
@@ -136,9 +140,9 @@ call_ends p run c runs target args = record {
       subst (Ended p m.heap (IsResult p d)) (sym (call_form p run c fr m))
       (ended_then p m.heap (IsTarget p d) (IsResult p d) (target_of (option_map (code p run) x.target) fr m) rest (target_ends p run d x.target k fr m target holds whole both.0)
       (λ this n after is.
-          ended_then p n.heap (AreParams p d.params) (IsResult p d) (in_order (map (code p run) x.args) fr n) (λ vs l. entered run x.method this vs l)
-          (arguments_end p run d.params x.args k fr n args (holds_later p k fr m.heap n.heap after holds) (later_self p m.heap n.heap after) both.1)
-          (λ vs l later are. entered_ends p run x.method d this vs l runs there (later_self p n.heap l.heap later) (target_later p d n.heap l.heap this later is) are)));
+      ended_then p n.heap (AreParams p d.params) (IsResult p d) (in_order (map (code p run) x.args) fr n) (λ vs l. entered run x.method this vs l)
+      (arguments_end p run d.params x.args k fr n args (holds_later p k fr m.heap n.heap after holds) (later_self p m.heap n.heap after) both.1)
+      (λ vs l later are. entered_ends p run x.method d this vs l runs there (later_self p n.heap l.heap later) (target_later p d n.heap l.heap this later is) are)));
 }
 
 -- the method of a call that has a value of this kind
@@ -269,14 +273,16 @@ code_layer p well run (Expr-F.Old a) = rw (e.rolls-Old a.0) (leaving p (e.Old a.
 code_layer p well run (Expr-F.Has q a) = rw (e.rolls-Has q.0 a.0) (leaving p (e.Has q.0 a.0) run (code_has p run q.0 a.0))
 code_layer p well run (Expr-F.Size q) = rw (e.rolls-Size q.0) (leaving p (e.Size q.0) run (code_size p run q.0))
 code_layer p well run (Expr-F.New c) = rw (e.rolls-New c)
-    (formed p (sort_of (e.New c)) (λ k. in_code k.form (where_ (nat_lt c (length k.unit.classes)) (Of (kind.Ref c)))) (code p run (e.New c)) (λ fr m. make p c m) (sort_new c) (code_new p run c) (record {
+    (formed p (sort_of (e.New c)) (λ k. in_code k.form (where_ (nat_lt c (length k.unit.classes)) (Of (kind.Ref c)))) (code p run (e.New c)) (λ fr m. make p c m) (sort_new c)
+    (code_new p run c) (record {
       ends = λ k fr m w holds whole fits.
           let inner = in_code_suits k.form (where_ (nat_lt c (length k.unit.classes)) (Of (kind.Ref c))) w holds.form fits in
           let parts = where_suits (nat_lt c (length k.unit.classes)) (Of (kind.Ref c)) w inner in
           as_kind p w (kind.Ref c) m.heap (make p c m) parts.1 (make_ends p well c m whole);
     }))
 code_layer p well run (Expr-F.Call c) = rw (e.rolls-Call c.0)
-    (formed p (sort_of (e.Call c.0)) (λ k. in_code k.form (sort_of_call c.0 k)) (code p run (e.Call c.0)) (λ fr m. then_with (call_of p run c.0 fr m) gives_in) (sort_call c.0) (code_call p run c.0)
+    (formed p (sort_of (e.Call c.0)) (λ k. in_code k.form (sort_of_call c.0 k)) (code p run (e.Call c.0)) (λ fr m. then_with (call_of p run c.0 fr m) gives_in) (sort_call c.0)
+    (code_call p run c.0)
     (record { ends = λ k fr m w holds whole fits. valued_ends p run c.0 k fr m w c.1 holds whole fits }))
 
 -- ## every expression and call

@@ -1,14 +1,13 @@
 -- How expressions of code end over a well unit, form by form.
-use Rattle.std.proofs.Common.{◌≡◌, ℕ, Bool, true, false, List, [], ◌∷◌, Option, Some, None, refl, sym, ◌∙◌, ap, subst}
-use Rattle.std.specs.Prelude.{ℤ, ◌==◌, ◌&&◌, ◌+ℤ◌, ◌-ℤ◌, ◌*ℤ◌, neg_ℤ, int_lt, int_le, if◌then◌else◌, slice_get}
-use Rattle.std.specs.Cmp.Lexicographic.{pointwise}
+use Rattle.std.proofs.Common.{◌≡◌, ℕ, Bool, true, false, Option, Some, None, refl, sym, ◌∙◌, ap, subst}
+use Rattle.std.specs.Prelude.{◌==◌, ◌&&◌, ◌+ℤ◌, ◌-ℤ◌, ◌*ℤ◌, neg_ℤ, int_lt, int_le, if◌then◌else◌, slice_get}
 use Rattle.std.proofs.lemmas.Bool.{false≢true, and_parts}
 use Rattle.taco_unit.specs.declared.kind.Kind.{Kind}
 use Rattle.taco_unit.specs.declared.kind.Kind.TheVariants as kind
 use Rattle.taco_unit.specs.declared.expr.Op.{Op}
 use Rattle.taco_unit.specs.declared.expr.Op.TheVariants as op
 use Rattle.taco_unit.specs.declared.unit.FieldDef.{FieldDef}
-use Rattle.taco_unit.specs.Kinds.{Sort, Of, NullOnly, Faulty, NoValue, Sorted, Around, Code as InCode, suits, alike, where_, field_sort, binary_sort, operator_sort}
+use Rattle.taco_unit.specs.Kinds.{Sort, Of, NullOnly, Faulty, NoValue, Sorted, Around, suits, alike, where_, field_sort, binary_sort, operator_sort}
 use Rattle.taco_unit.specs.Well.{IsWell}
 use Rattle.heap_core.specs.declared.value.Value.{Value}
 use Rattle.heap_core.specs.declared.value.Value.TheVariants.{Null, Obj, Num, Flag}
@@ -22,7 +21,7 @@ use Rattle.heap_core.specs.Exec.{Memory, Ends, Gives, Frame, Code, then_with, on
 use Rattle.heap_core.proofs.Lists.{beside}
 use Rattle.dyn_core.proofs.Fitting.{gives_only, number_only, numbers_only, same_only}
 use Rattle.dyn_plan.specs.Endings.{ComesAfter}
-use Rattle.dyn_plan.proofs.EndParts.{later_self, IsKind, kind_later, Ended, ended_then, HoldsIn, holds_later, where_suits, in_clause_never, as_kind, same_itself, seen_ends, object_ends, read_ends}
+use Rattle.dyn_plan.proofs.EndParts.{later_self, IsKind, Ended, ended_then, HoldsIn, holds_later, where_suits, in_clause_never, as_kind, same_itself, seen_ends, object_ends, read_ends}
 
 -- code of this sort ends with a value of each kind that the sort suits
 pub record CodeEnds (p : Posed) (sort : Sorted) (c : Code) : Type 0 where
@@ -80,8 +79,8 @@ field_ends p well sort c f k fr m w claim holds whole is =
     as_kind p w d.kind m.heap (then_with (c fr m) (on_object (read p f))) sorted.1
     (ended_then p m.heap (IsKind p (kind.Ref d.class)) (IsKind p d.kind) (c fr m) (on_object (read p f)) (claim.ends k fr m (kind.Ref d.class) holds whole sorted.0.object)
     (λ v n after is.
-        let self = later_self p m.heap n.heap after in
-        object_ends p d.class n (IsKind p d.kind) (read p f) v self is (λ o of. read_ends p well f o d n self there of)))
+    let self = later_self p m.heap n.heap after in
+    object_ends p d.class n (IsKind p d.kind) (read p f) v self is (λ o of. read_ends p well f o d n self there of)))
 
 -- ## two operands
 
@@ -91,7 +90,7 @@ both_end : (p : Posed) (o : Op) (s t : Sorted) (a c : Code) (v w : Kind) (k : Ar
 both_end p o s t a c v w k fr m first second holds whole left right only =
     ended_then p m.heap (IsKind p v) (IsKind p w) (a fr m) (λ x n. then_with (c fr n) (λ y l. ends_as l (operated o p.scope.ints x y))) (first.ends k fr m v holds whole left)
     (λ x n after is. one_ends p t c v w (operated o p.scope.ints x) k fr n second (holds_later p k fr m.heap n.heap after holds) (later_self p m.heap n.heap after) right
-        (λ heap y. only heap x y))
+    (λ heap y. only heap x y))
 
 alike_kind : (s t : Sort) → alike s t ≡ true → (k : Kind) × (suits k s ≡ true) × (suits k t ≡ true)
 alike_kind (Of k) t is = (k, same_itself k, is)
@@ -142,17 +141,20 @@ module _ (p : Posed) (s t : Sorted) (a c : Code) (k : Around) (fr : Frame) (m : 
       (both_end p o s t a c both.0 kind.Flag k fr m first second holds whole both.1 both.2 only)
 
   of_truth : (decides : Bool) → suits w (where_ (suits kind.Flag (s k) && suits kind.Flag (t k)) (Of kind.Flag)) ≡ true
-      → Ended p m.heap (IsKind p w) (then_with (a fr m) (on_test (λ x n. if x then (if decides then Gives (Flag true) n else as_test (c fr n)) else (if decides then as_test (c fr n) else Gives (Flag false) n))))
+      → Ended p m.heap (IsKind p w) (then_with (a fr m) (on_test (λ x n. if x then (if decides then Gives (Flag true) n else as_test (c fr n)) else (if decides then as_test
+      (c fr n) else Gives (Flag false) n))))
   of_truth decides is =
       let parts = where_suits (suits kind.Flag (s k) && suits kind.Flag (t k)) (Of kind.Flag) w is in
       let both = and_parts (suits kind.Flag (s k)) (suits kind.Flag (t k)) parts.0 in
-      let next : Value → Memory → Ends Value = on_test (λ x n. if x then (if decides then Gives (Flag true) n else as_test (c fr n)) else (if decides then as_test (c fr n) else Gives (Flag false) n)) in
+      let next : Value → Memory → Ends Value = on_test (λ x n. if x then (if decides then Gives (Flag true) n else as_test (c fr n)) else (if decides then as_test (c fr n) else Gives
+      (Flag false) n)) in
       as_kind p w kind.Flag m.heap (then_with (a fr m) next) parts.1
       (ended_then p m.heap (IsKind p kind.Flag) (IsKind p kind.Flag) (a fr m) next (first.ends k fr m kind.Flag holds whole both.0)
       (λ v n after is. by decides both.1 v n (holds_later p k fr m.heap n.heap after holds) (later_self p m.heap n.heap after)))
     where
       by : (decides : Bool) → suits kind.Flag (t k) ≡ true → (v : Value) (n : Memory) → HoldsIn p k fr n.heap → ComesAfter p n.heap n.heap
-          → Ended p n.heap (IsKind p kind.Flag) (on_test (λ x n. if x then (if decides then Gives (Flag true) n else as_test (c fr n)) else (if decides then as_test (c fr n) else Gives (Flag false) n)) v n)
+          → Ended p n.heap (IsKind p kind.Flag) (on_test (λ x n. if x then (if decides then Gives (Flag true) n else as_test (c fr n)) else (if decides then as_test
+          (c fr n) else Gives (Flag false) n)) v n)
       by true fits (Flag true) n around self = (self, refl)
       by true fits (Flag false) n around self = right_ends p t c k fr n second around self fits
       by false fits (Flag true) n around self = right_ends p t c k fr n second around self fits

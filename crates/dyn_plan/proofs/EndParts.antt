@@ -7,7 +7,7 @@ use Rattle.std.proofs.lemmas.Bool.{false≢true, eqb-true, eq-eqb, and_from}
 use Rattle.taco_unit.specs.declared.kind.Kind.{Kind}
 use Rattle.taco_unit.specs.declared.kind.Kind.TheVariants as kind
 use Rattle.taco_unit.specs.declared.unit.FieldDef.{FieldDef}
-use Rattle.taco_unit.specs.Kinds.{Sort, Of, NullOnly, Faulty, NoValue, Around, Code as InCode, Form, same_kind, suits, where_, in_code, in_clause, in_exit}
+use Rattle.taco_unit.specs.Kinds.{Sort, Around, Code as InCode, Form, same_kind, suits, where_, in_code, in_clause, in_exit}
 use Rattle.taco_unit.specs.Well.{IsWell}
 use Rattle.heap_core.specs.declared.value.Value.{Value}
 use Rattle.heap_core.specs.declared.value.Value.TheVariants.{Null, Obj, Num, Flag}
@@ -16,7 +16,7 @@ use Rattle.heap_core.specs.declared.value.Seen.{Seen}
 use Rattle.heap_core.specs.declared.value.Seen.TheVariants.{Is, Bad, Out}
 use Rattle.heap_core.specs.Posed.{Posed}
 use Rattle.heap_core.specs.Outcomes.{value_in}
-use Rattle.heap_core.specs.Heap.{Heap, cell, cell_of, field, put, grown}
+use Rattle.heap_core.specs.Heap.{Heap, cell, cell_of, put, grown}
 use Rattle.heap_core.specs.Start.{has_kind}
 use Rattle.heap_core.specs.Exec.{Memory, Ends, Gives, Throws, Leaves, Frame, then_with, ends_as, on_object, gives_in, with_heap, read, write, make}
 use Rattle.heap_core.proofs.FieldLaws.{none_some, some_same, kind_kept}
@@ -71,7 +71,8 @@ pub record HoldsIn (p : Posed) (k : Around) (fr : Frame) (heap : Heap) : Type 0 
   pub this : (c : ℕ) → k.this ≡ Some c → IsKind p (kind.Ref c) fr.this heap
   pub locals : pointwise (has_kind p.scope.ints heap) k.locals fr.locals ≡ true
 
-pub all_later : (p : Posed) (a b : Heap) (ks : List Kind) (vs : List Value) → ComesAfter p a b → pointwise (has_kind p.scope.ints a) ks vs ≡ true → pointwise (has_kind p.scope.ints b) ks vs ≡ true
+pub all_later : (p : Posed) (a b : Heap) (ks : List Kind) (vs : List Value) → ComesAfter p a b → pointwise (has_kind p.scope.ints a) ks vs ≡ true
+    → pointwise (has_kind p.scope.ints b) ks vs ≡ true
 all_later p a b ks vs after all = beside_more (has_kind p.scope.ints a) (has_kind p.scope.ints b) (λ k v is. kind_later p a b k v after is) ks vs all
 
 pub holds_later : (p : Posed) (k : Around) (fr : Frame) (a b : Heap) → ComesAfter p a b → HoldsIn p k fr a → HoldsIn p k fr b
@@ -135,7 +136,8 @@ read_ends p well f o d m whole there is = by (slice_get m.heap o) (field_only p.
     of None only = tt
     of (Some v) only = (whole, only)
 
-    by : (x : Option Object) → gives_only p.scope.ints m.heap d.kind (cell_of p.unit.classes f x) ≡ true → Ended p m.heap (IsKind p d.kind) (gives_in (option_and_then (cell p.unit.classes f) x) m)
+    by : (x : Option Object) → gives_only p.scope.ints m.heap d.kind (cell_of p.unit.classes f x) ≡ true
+        → Ended p m.heap (IsKind p d.kind) (gives_in (option_and_then (cell p.unit.classes f) x) m)
     by None only = tt
     by (Some x) only = of (cell p.unit.classes f x) only
 
@@ -193,5 +195,5 @@ make_ends p well class m whole = by (grown p m.heap class) refl
         let t : DynState = record { vars = Obj (length m.heap) ∷ []; objects = after } in
         let has : HasKinds p ks s = record { vars = each; objects_whole = whole.whole; few_objects = whole.few } in
         let kept = act_keeps_kinds p ks well (Make 0 class) s t (same_itself (kind.Ref class)) has
-            (ap (option_map (λ h. record { vars = with_var (Null ∷ []) 0 (Obj (length m.heap)); objects = h })) made) in
+        (ap (option_map (λ h. record { vars = with_var (Null ∷ []) 0 (Obj (length m.heap)); objects = h })) made) in
         (later_of p ks s t kept, kept.kinded.vars 0 (kind.Ref class) refl)

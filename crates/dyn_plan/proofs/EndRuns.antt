@@ -1,6 +1,6 @@
 -- Every statement and every method of a well unit ends so, and with them the executions from starts that fit.
-use Rattle.std.proofs.Common.{◌≡◌, ℕ, zero, suc, ◌<◌, Bool, true, false, List, [], ◌∷◌, ◌++◌, Option, Some, None, refl, sym, ◌∙◌, ap, subst}
-use Rattle.std.specs.Prelude.{◌&&◌, ◌^◌, ◌-◌, nat_lt, map, slice_get, option_map, if◌then◌else◌}
+use Rattle.std.proofs.Common.{◌≡◌, ℕ, zero, suc, Bool, true, false, List, [], ◌∷◌, ◌++◌, Option, Some, None, refl, sym, ◌∙◌, subst}
+use Rattle.std.specs.Prelude.{◌&&◌, ◌^◌, ◌-◌, map, slice_get, option_map, if◌then◌else◌}
 use Rattle.std.specs.List.{list_all}
 use Rattle.std.specs.Option.{option_map_or}
 use Rattle.std.specs.Cmp.Lexicographic.{pointwise}
@@ -8,16 +8,15 @@ use Rattle.std.proofs.lemmas.Bool.{false≢true, and_parts, and_from, lt-ltb}
 use Rattle.std.proofs.lemmas.Nat.{pow_pos}
 use Rattle.taco_unit.specs.declared.kind.Kind.{Kind}
 use Rattle.taco_unit.specs.declared.kind.Kind.TheVariants as kind
-use Rattle.taco_unit.specs.declared.expr.Expr.{Expr}
 use Rattle.taco_unit.specs.declared.stmt.Stmt.{Stmt, ind-Stmt, roll-Stmt, map-Stmt}
 use Rattle.taco_unit.specs.declared.stmt.Stmt.TheOpen.{Stmt-F}
 use Rattle.taco_unit.specs.declared.stmt.Stmt.TheVariants as s
 use Rattle.taco_unit.specs.declared.expr.Expr.TheVariants as e
 use Rattle.taco_unit.specs.declared.unit.MethodDef.{MethodDef}
 use Rattle.taco_unit.specs.declared.unit.ParamDef.{ParamDef}
-use Rattle.taco_unit.specs.Kinds.{Of, Around, Code as InCode, suits, sort_of, sort_of_kind, is_condition}
+use Rattle.taco_unit.specs.Kinds.{Of, Around, Code as InCode, sort_of, sort_of_kind, is_condition}
 use Rattle.taco_unit.specs.Bodies.{takes, place_sort, is_call, returns, Fitting, is_fitting}
-use Rattle.taco_unit.specs.Well.{IsWell, receiver_of, result_kind, param_kinds, around_method}
+use Rattle.taco_unit.specs.Well.{IsWell, receiver_of, param_kinds, around_method}
 use Rattle.taco_unit.proofs.KindForms.{fitting_block, fitting_set, fitting_write, fitting_step_local, fitting_step_field, fitting_if, fitting_while, fitting_return, fitting_run}
 use Rattle.heap_core.specs.declared.value.Value.{Value}
 use Rattle.heap_core.specs.declared.value.Value.TheVariants.{Null, Obj, Num, Flag}
@@ -25,8 +24,9 @@ use Rattle.heap_core.specs.declared.start.Start.{Start}
 use Rattle.heap_core.specs.Posed.{Posed}
 use Rattle.heap_core.specs.Outcomes.{zero_of}
 use Rattle.heap_core.specs.Heap.{Heap}
-use Rattle.heap_core.specs.Start.{has_kind, is_receiver, is_argument, method_of, Fits}
-use Rattle.heap_core.specs.Exec.{Memory, memory_of, Ends, Gives, Throws, Leaves, Exit, Goes, Returns, Raises, Stops, Frame, Body, Run, on_object, gives_in, write, code, call_of, after, after_test, in_turn, set_local, stepped, step_field, turns, give_back, exec, returned, run_body, calls}
+use Rattle.heap_core.specs.Start.{has_kind, is_receiver, is_argument}
+use Rattle.heap_core.specs.Exec.{Memory, memory_of, Ends, Gives, Throws, Leaves, Exit, Goes, Returns, Raises, Stops, Frame, Body, Run, on_object, gives_in, write, code, call_of}
+use Rattle.heap_core.specs.Exec.{after, after_test, in_turn, set_local, stepped, step_field, turns, give_back, exec, returned, run_body, calls}
 use Rattle.heap_core.specs.Judge.{run_of}
 use Rattle.heap_core.proofs.Lists.{beside_map}
 use Rattle.heap_core.proofs.ExecForms.{exec_block, exec_set, exec_write, exec_step_local, exec_step_field, exec_if, exec_while, exec_return, exec_run}
@@ -61,7 +61,8 @@ layer p well run runs (Stmt-F.Block ts) =
     rw (s.rolls-Block (map (λ t. t.0) ts)) (formed p (is_fitting (s.Block us)) (λ k. list_all (λ x. x k) (map is_fitting us)) (exec p run (s.Block us)) (in_turn (map (exec p run) us))
     (fitting_block us) (exec_block p run us) (record { ends = λ k fr m holds whole is. block_ends p run ts k fr m holds whole is }))
 layer p well run runs (Stmt-F.Set i a) =
-    rw (s.rolls-Set i a) (formed p (is_fitting (s.Set i a)) (λ k. takes (sort_of_kind (slice_get k.locals i)) (sort_of a k)) (exec p run (s.Set i a)) (λ fr m. after (code p run a fr m) (set_local fr i))
+    rw (s.rolls-Set i a) (formed p (is_fitting (s.Set i a)) (λ k. takes (sort_of_kind (slice_get k.locals i)) (sort_of a k)) (exec p run (s.Set i a)) (λ fr m. after
+    (code p run a fr m) (set_local fr i))
     (fitting_set i a) (exec_set p run i a) (record { ends = λ k fr m holds whole is. assign_exits p well run runs i a k fr m holds whole is }))
 layer p well run runs (Stmt-F.Write a f c) =
     rw (s.rolls-Write a f c) (formed p (is_fitting (s.Write a f c)) (λ k. takes (place_sort k a f) (sort_of c k)) (exec p run (s.Write a f c))
@@ -167,7 +168,8 @@ ends_whole p d s (Gives v m) ended = ended
 ends_whole p d s (Throws m) ended = ended
 ends_whole p d s Leaves ended = tt
 
-receiver_fits : (p : Posed) (heap : Heap) (class : ℕ) (fixed : Bool) (this : Value) → is_receiver heap class fixed this ≡ true → (c : ℕ) → receiver_of fixed class ≡ Some c → IsKind p (kind.Ref c) this heap
+receiver_fits : (p : Posed) (heap : Heap) (class : ℕ) (fixed : Bool) (this : Value) → is_receiver heap class fixed this ≡ true → (c : ℕ) → receiver_of fixed class ≡ Some c
+    → IsKind p (kind.Ref c) this heap
 receiver_fits p heap class true this is c there = absurd (cc)
 receiver_fits p heap class false (Obj o) is c there =
     let same : class ≡ c = cc in
@@ -182,5 +184,5 @@ executions_end_whole p d s well there fits =
     let receiver = subst (λ o. option_map_or (λ m. is_receiver s.objects m.class m.fixed s.this) o false ≡ true) there fits.receiver in
     let arguments = subst (λ o. option_map_or (λ m. pointwise (is_argument p.scope.ints s.objects) m.params s.args) o false ≡ true) there fits.arguments in
     let ended = body_ends p well (calls p p.scope.calls) (runs_end p well p.scope.calls) p.method d s.this s.args (memory_of s.objects) there whole
-        (receiver_fits p s.objects d.class d.fixed s.this receiver) arguments in
+    (receiver_fits p s.objects d.class d.fixed s.this receiver) arguments in
     ends_whole p d s (run_of p s) (subst (λ o. Ended p s.objects (IsResult p d) (run_body p (calls p p.scope.calls) o s.this s.args (memory_of s.objects))) (sym there) ended)

@@ -1,38 +1,35 @@
 -- How each statement of code ends over a well unit, where methods that are run end so.
-use Rattle.std.proofs.Common.{◌≡◌, ℕ, zero, suc, Bool, true, false, List, [], ◌∷◌, length, Option, Some, None, refl, sym, ◌∙◌, ap, subst}
+use Rattle.std.proofs.Common.{◌≡◌, ℕ, zero, suc, Bool, true, false, List, length, Option, Some, None, refl, sym, ◌∙◌, ap, subst}
 use Rattle.std.specs.Prelude.{pos, ◌==◌, ◌&&◌, ◌+ℤ◌, ◌-ℤ◌, nat_lt, if◌then◌else◌, map, slice_get, slice_set, option_map, is_none}
-use Rattle.std.specs.List.{list_all}
 use Rattle.std.specs.Cmp.Lexicographic.{pointwise}
-use Rattle.std.proofs.lemmas.Bool.{false≢true, and_parts}
+use Rattle.std.proofs.lemmas.Bool.{false≢true}
 use Rattle.taco_unit.specs.declared.kind.Kind.{Kind}
 use Rattle.taco_unit.specs.declared.kind.Kind.TheVariants as kind
 use Rattle.taco_unit.specs.declared.expr.Expr.{Expr}
 use Rattle.taco_unit.specs.declared.expr.Op.TheVariants as op
 use Rattle.taco_unit.specs.declared.expr.Call.{Call, out-Call}
-use Rattle.taco_unit.specs.declared.stmt.Stmt.{Stmt, ind-Stmt, roll-Stmt, map-Stmt}
-use Rattle.taco_unit.specs.declared.stmt.Stmt.TheOpen.{Stmt-F}
-use Rattle.taco_unit.specs.declared.stmt.Stmt.TheVariants as s
 use Rattle.taco_unit.specs.declared.expr.Expr.TheVariants as e
 use Rattle.taco_unit.specs.declared.unit.FieldDef.{FieldDef}
 use Rattle.taco_unit.specs.declared.unit.MethodDef.{MethodDef}
-use Rattle.taco_unit.specs.Kinds.{Sort, Of, NullOnly, Faulty, NoValue, Sorted, Around, Code as InCode, Form, suits, where_, field_sort, sort_of, sort_of_kind, in_code, are_arguments, result_sort, is_condition}
-use Rattle.taco_unit.specs.Bodies.{takes, place_sort, is_call, returns, Fitting, is_fitting}
+use Rattle.taco_unit.specs.Kinds.{Sort, Of, NullOnly, Faulty, NoValue, Sorted, Around, suits, where_, field_sort, sort_of, sort_of_kind, in_code, are_arguments, result_sort}
+use Rattle.taco_unit.specs.Bodies.{takes, place_sort, is_call, returns, Fitting}
 use Rattle.taco_unit.specs.Well.{IsWell}
-use Rattle.taco_unit.proofs.KindForms.{sort_of_call, called_as, is_target_of, sort_call, call_form as call_sorted, fitting_block, fitting_set, fitting_write, fitting_step_local, fitting_step_field, fitting_if, fitting_while, fitting_return, fitting_run}
+use Rattle.taco_unit.proofs.KindForms.{sort_of_call, called_as, is_target_of, sort_call, call_form as call_sorted}
 use Rattle.heap_core.specs.declared.value.Value.{Value}
 use Rattle.heap_core.specs.declared.value.Value.TheVariants.{Null, Obj, Num, Flag}
 use Rattle.heap_core.specs.Posed.{Posed}
 use Rattle.heap_core.specs.Outcomes.{number, operated}
 use Rattle.heap_core.specs.Heap.{Heap}
 use Rattle.heap_core.specs.Start.{has_kind}
-use Rattle.heap_core.specs.Exec.{Memory, Ends, Gives, Throws, Leaves, Exit, Goes, Returns, Raises, Stops, Frame, Code, Body, Run, then_with, on_object, gives_in, read, write, code, call_of, after, on_branch, after_test, then_body, in_turn, set_local, stepped, step_field, turns, give_back, exec}
+use Rattle.heap_core.specs.Exec.{Memory, Ends, Gives, Throws, Leaves, Exit, Goes, Returns, Raises, Stops, Frame, Code, Body, Run, then_with, on_object, gives_in, read, write, code}
+use Rattle.heap_core.specs.Exec.{call_of, after, on_branch, after_test, then_body, set_local, stepped, step_field, turns, give_back}
 use Rattle.heap_core.proofs.Lists.{beside_set}
-use Rattle.heap_core.proofs.ExecForms.{exec_block, exec_set, exec_write, exec_step_local, exec_step_field, exec_if, exec_while, exec_return, exec_run}
 use Rattle.dyn_core.proofs.Fitting.{number_only, numbers_only}
 use Rattle.dyn_plan.specs.Endings.{ComesAfter, IsOfKind}
-use Rattle.dyn_plan.proofs.EndParts.{later_self, later_then, IsKind, kind_later, Ended, ended_then, HoldsIn, holds_later, all_later, kinds_same, seen_ends, object_ends, read_ends, write_ends, Done}
+use Rattle.dyn_plan.proofs.EndParts.{later_self, later_then, IsKind, kind_later, Ended, ended_then, HoldsIn, holds_later, all_later, kinds_same, seen_ends, object_ends, read_ends}
+use Rattle.dyn_plan.proofs.EndParts.{write_ends, Done}
 use Rattle.dyn_plan.proofs.EndExprs.{CodeEnds, field_there, local_ends}
-use Rattle.dyn_plan.proofs.EndCalls.{IsResult, RunEnds, CallEnds, CallSorted, method_there, expr_ends, every_call}
+use Rattle.dyn_plan.proofs.EndCalls.{IsResult, RunEnds, CallSorted, method_there, expr_ends, every_call}
 
 -- ## statements
 
@@ -125,10 +122,10 @@ step_field_ends : (p : Posed) → IsWell p.unit → (f o : ℕ) (up : Bool) (d :
 step_field_ends p well f o up d m whole there int is =
     ended_then p m.heap (IsKind p d.kind) Done (read p f o m) (λ v n. then_with (stepped p.scope.ints up v n) (λ u l. write p f o u l)) (read_ends p well f o d m whole there is)
     (λ v n after of.
-        ended_then p n.heap (IsKind p kind.Int) Done (stepped p.scope.ints up v n) (λ u l. write p f o u l) (stepped_ends p up v n (later_self p m.heap n.heap after))
-        (λ u l later number.
-            let object = kind_later p n.heap l.heap (kind.Ref d.class) (Obj o) later (kind_later p m.heap n.heap (kind.Ref d.class) (Obj o) after is) in
-            write_ends p well f o d u l (later_self p n.heap l.heap later) there object (subst (λ z. IsKind p z u l.heap) (sym int) number)))
+    ended_then p n.heap (IsKind p kind.Int) Done (stepped p.scope.ints up v n) (λ u l. write p f o u l) (stepped_ends p up v n (later_self p m.heap n.heap after))
+    (λ u l later number.
+    let object = kind_later p n.heap l.heap (kind.Ref d.class) (Obj o) later (kind_later p m.heap n.heap (kind.Ref d.class) (Obj o) after is) in
+    write_ends p well f o d u l (later_self p n.heap l.heap later) there object (subst (λ z. IsKind p z u l.heap) (sym int) number)))
 
 -- ## loops
 
@@ -149,7 +146,8 @@ module _ (p : Posed) (k : Around) (sort : Sorted) (c : Code) (fits : Fitting) (b
       exits_after p k m.heap (IsKind p kind.Flag) (c fr m) (on_branch (λ x n. if x then then_body (b fr n) fr (turns i c b) else Goes fr.locals n)) (test.ends k fr m kind.Flag holds whole is)
       (λ v n after of. by (turns_end i) v n after)
     where
-      by : ((fr : Frame) (m : Memory) → HoldsIn p k fr m.heap → ComesAfter p m.heap m.heap → Exits p k m.heap (turns i c b fr m)) → (v : Value) (n : Memory) → ComesAfter p m.heap n.heap → Exits p k n.heap (on_branch (λ x n. if x then then_body (b fr n) fr (turns i c b) else Goes fr.locals n) v n)
+      by : ((fr : Frame) (m : Memory) → HoldsIn p k fr m.heap → ComesAfter p m.heap m.heap → Exits p k m.heap (turns i c b fr m)) → (v : Value) (n : Memory)
+          → ComesAfter p m.heap n.heap → Exits p k n.heap (on_branch (λ x n. if x then then_body (b fr n) fr (turns i c b) else Goes fr.locals n) v n)
       by rest (Flag true) n after =
           let around = holds_later p k fr m.heap n.heap after holds in
           exits_then p k fr n.heap (b fr n) (turns i c b) around (body.ends k fr n around (later_self p m.heap n.heap after) fit)
@@ -181,15 +179,15 @@ module _ (p : Posed) (well : IsWell p.unit) (run : Run) (runs : RunEnds p run) w
       exits_after p k m.heap (IsKind p (kind.Ref d.class)) (code p run a fr m) (λ v n. after (code p run c fr n) (λ u l. after (on_object (λ o. write p f o u) v l) (λ z. Goes fr.locals)))
       ((expr a).ends k fr m (kind.Ref d.class) holds whole field.object)
       (λ v n passed is.
-          let around = holds_later p k fr m.heap n.heap passed holds in
-          exits_after p k n.heap (IsKind p d.kind) (code p run c fr n) (λ u l. after (on_object (λ o. write p f o u) v l) (λ z. Goes fr.locals))
-          ((expr c).ends k fr n d.kind around (later_self p m.heap n.heap passed) field.value)
-          (λ u l later of.
-              let self = later_self p n.heap l.heap later in
-              let held = holds_later p k fr n.heap l.heap later around in
-              exits_after p k l.heap Done (on_object (λ o. write p f o u) v l) (λ z. Goes fr.locals)
-              (object_ends p d.class l Done (λ o. write p f o u) v self (kind_later p n.heap l.heap (kind.Ref d.class) v later is) (λ o object. write_ends p well f o d u l self there object of))
-              (λ z q done nothing. goes_on p k fr l.heap q.heap q held done)))
+      let around = holds_later p k fr m.heap n.heap passed holds in
+      exits_after p k n.heap (IsKind p d.kind) (code p run c fr n) (λ u l. after (on_object (λ o. write p f o u) v l) (λ z. Goes fr.locals))
+      ((expr c).ends k fr n d.kind around (later_self p m.heap n.heap passed) field.value)
+      (λ u l later of.
+      let self = later_self p n.heap l.heap later in
+      let held = holds_later p k fr n.heap l.heap later around in
+      exits_after p k l.heap Done (on_object (λ o. write p f o u) v l) (λ z. Goes fr.locals)
+      (object_ends p d.class l Done (λ o. write p f o u) v self (kind_later p n.heap l.heap (kind.Ref d.class) v later is) (λ o object. write_ends p well f o d u l self there object of))
+      (λ z q done nothing. goes_on p k fr l.heap q.heap q held done)))
 
   pub step_local_exits : (i : ℕ) (up : Bool) (k : Around) (fr : Frame) (m : Memory) → HoldsIn p k fr m.heap → ComesAfter p m.heap m.heap
       → takes (sort_of_kind (slice_get k.locals i)) (Of kind.Int) ≡ true
@@ -200,9 +198,9 @@ module _ (p : Posed) (well : IsWell p.unit) (run : Run) (runs : RunEnds p run) w
       exits_after p k m.heap (IsKind p kind.Int) (gives_in (slice_get fr.locals i) m) (λ v n. after (stepped p.scope.ints up v n) (set_local fr i))
       (local_ends p i k fr m kind.Int holds whole kind.Int there refl)
       (λ v n after is.
-          exits_after p k n.heap (IsKind p kind.Int) (stepped p.scope.ints up v n) (set_local fr i) (stepped_ends p up v n (later_self p m.heap n.heap after))
-          (λ u l later of.
-              set_exits p k fr l i kind.Int u (holds_later p k fr n.heap l.heap later (holds_later p k fr m.heap n.heap after holds)) (later_self p n.heap l.heap later) there of))
+      exits_after p k n.heap (IsKind p kind.Int) (stepped p.scope.ints up v n) (set_local fr i) (stepped_ends p up v n (later_self p m.heap n.heap after))
+      (λ u l later of.
+      set_exits p k fr l i kind.Int u (holds_later p k fr n.heap l.heap later (holds_later p k fr m.heap n.heap after holds)) (later_self p n.heap l.heap later) there of))
 
   pub step_field_exits : (a : Expr) (f : ℕ) (up : Bool) (k : Around) (fr : Frame) (m : Memory) → HoldsIn p k fr m.heap → ComesAfter p m.heap m.heap → takes (place_sort k a f) (Of kind.Int) ≡ true
       → Exits p k m.heap (after (code p run a fr m) (λ v n. after (on_object (step_field p f up) v n) (λ z. Goes fr.locals)))
@@ -213,11 +211,11 @@ module _ (p : Posed) (well : IsWell p.unit) (run : Run) (runs : RunEnds p run) w
       exits_after p k m.heap (IsKind p (kind.Ref d.class)) (code p run a fr m) (λ v n. after (on_object (step_field p f up) v n) (λ z. Goes fr.locals))
       ((expr a).ends k fr m (kind.Ref d.class) holds whole field.object)
       (λ v n after is.
-          let self = later_self p m.heap n.heap after in
-          let held = holds_later p k fr m.heap n.heap after holds in
-          exits_after p k n.heap Done (on_object (step_field p f up) v n) (λ z. Goes fr.locals)
-          (object_ends p d.class n Done (step_field p f up) v self is (λ o of. step_field_ends p well f o up d n self there (kinds_same d.kind kind.Int field.value) of))
-          (λ z q done nothing. goes_on p k fr n.heap q.heap q held done))
+      let self = later_self p m.heap n.heap after in
+      let held = holds_later p k fr m.heap n.heap after holds in
+      exits_after p k n.heap Done (on_object (step_field p f up) v n) (λ z. Goes fr.locals)
+      (object_ends p d.class n Done (step_field p f up) v self is (λ o of. step_field_ends p well f o up d n self there (kinds_same d.kind kind.Int field.value) of))
+      (λ z q done nothing. goes_on p k fr n.heap q.heap q held done))
 
   pub branch_exits : (a : Expr) (x y : Fitting) (b d : Body) (k : Around) (fr : Frame) (m : Memory) → StmtEnds p x b → StmtEnds p y d → HoldsIn p k fr m.heap → ComesAfter p m.heap m.heap
       → suits kind.Flag (sort_of a k) ≡ true → x k ≡ true → y k ≡ true → Exits p k m.heap (after_test (code p run a fr m) (λ t n. if t then b fr n else d fr n))

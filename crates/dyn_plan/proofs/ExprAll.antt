@@ -30,7 +30,8 @@ use Rattle.heap_core.proofs.ExecForms.{code_num, code_flag, code_null, code_this
 use Rattle.heap_core.proofs.ExecForms.{code_new, code_call, code_result, code_bound, code_quant, code_old, code_has, code_size, call_form}
 use Rattle.dyn_plan.specs.Places.{zero_number}
 use Rattle.dyn_plan.specs.Expressions.{Inline, kind_or, class_of_method, kind_of_result, target_low, with_target, expr_step, low_expr, low_call}
-use Rattle.dyn_plan.proofs.LowForms.{is_num, is_flag, is_null, is_this, is_result, is_local, is_bound, is_read, is_neg, is_not, is_bin, is_quant, is_old, is_has, is_size, is_new, is_call, is_called}
+use Rattle.dyn_plan.proofs.LowForms.{is_num, is_flag, is_null, is_this, is_result, is_local, is_bound, is_read, is_neg, is_not, is_bin, is_quant, is_old, is_has, is_size, is_new}
+use Rattle.dyn_plan.proofs.LowForms.{is_call, is_called}
 use Rattle.dyn_plan.proofs.ExprShown.{slot_below, Claim, stays, goes_nowhere}
 use Rattle.dyn_plan.proofs.FormShown.{null_shows, this_shows, found_near, local_shows, neg_is, one_shows, read_shows, make_shows, combined_shows}
 use Rattle.dyn_plan.proofs.CallShown.{as_wanted, CallResult, Inlines, CallClaim, call_gives, Claims, TargetClaim, called_shows}

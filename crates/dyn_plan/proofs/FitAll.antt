@@ -1,23 +1,24 @@
 -- The kinds of every lowered expression and call of code, where inlined methods fit.
-use Rattle.std.proofs.Common.{◌≡◌, ℕ, ◌+◌, Bool, true, false, List, [], ◌∷◌, ◌++◌, length, Option, Some, None, refl, sym, ◌∙◌, ap, subst}
-use Rattle.std.specs.Prelude.{ℤ, ◌&&◌, ◌||◌, nat_lt, map, slice_get, option_map}
+use Rattle.std.proofs.Common.{◌≡◌, ℕ, ◌+◌, Bool, true, List, [], ◌++◌, length, Option, Some, None, refl, sym, ◌∙◌, ap, subst}
+use Rattle.std.specs.Prelude.{◌&&◌, nat_lt, map, slice_get, option_map}
 use Rattle.std.specs.List.{list_all}
 use Rattle.std.specs.Option.{option_map_or}
-use Rattle.std.proofs.lemmas.Bool.{false≢true, and_parts, lt-ltb}
+use Rattle.std.proofs.lemmas.Bool.{and_parts, lt-ltb}
 use Rattle.std.proofs.lemmas.List.Folds.{list_all-append}
 use Rattle.taco_unit.specs.declared.kind.Kind.{Kind}
 use Rattle.taco_unit.specs.declared.kind.Kind.TheVariants as kind
 use Rattle.taco_unit.specs.declared.expr.Expr.{Expr}
 use Rattle.taco_unit.specs.declared.expr.Call.{Call, out-Call}
 use Rattle.taco_unit.specs.declared.unit.MethodDef.{MethodDef}
-use Rattle.taco_unit.specs.Kinds.{Sort, Sorted, Around, sort_of, is_kind_of, are_arguments}
+use Rattle.taco_unit.specs.Kinds.{Around, sort_of, is_kind_of, are_arguments}
 use Rattle.taco_unit.specs.Well.{IsWell, result_kind, param_kinds}
 use Rattle.taco_unit.proofs.KindForms.{is_target_of}
 use Rattle.heap_core.specs.Posed.{Posed}
 use Rattle.dyn_plan.specs.declared.plan.Plan.{Plan}
 use Rattle.dyn_plan.specs.Places.{Ground, Spots, slot}
 use Rattle.dyn_plan.specs.Guards.{Lowered, guarded}
-use Rattle.dyn_plan.specs.Expressions.{Low, Inline, Arguments, Target, kind_or, class_of_method, kinds_of_params, kind_of_result, arguments_low, target_low, entered_low, with_value_at, with_target, low_expr, low_call}
+use Rattle.dyn_plan.specs.Expressions.{Low, Inline, Arguments, Target, kind_or, class_of_method, kinds_of_params, kind_of_result, arguments_low, target_low, entered_low}
+use Rattle.dyn_plan.specs.Expressions.{with_value_at, with_target, low_expr, low_call}
 use Rattle.dyn_plan.specs.Frames.{result_of}
 use Rattle.dyn_plan.proofs.LowForms.{is_called}
 use Rattle.dyn_plan.proofs.FitSteps.{Fit, fit_append}
@@ -58,15 +59,15 @@ module _ (p : Posed) (args : List Kind) (g : Ground) (well : IsWell g.unit) (sam
         let lows : List Low = map (low_expr g inline) as_ in
         let target : Target = target_low g (option_map (low_expr g inline) t) (class_of_method g m) f b in
         let target_ok : TargetFits p args g d target =
-            subst (λ c. TargetFits p args g d (target_low g (option_map (low_expr g inline) t) c f b)) (sym class_is)
-            (target_fits p args g well same inline d t k f b on_target frame row (class_there m d there) both.0) in
+        subst (λ c. TargetFits p args g d (target_low g (option_map (low_expr g inline) t) c f b)) (sym class_is)
+        (target_fits p args g well same inline d t k f b on_target frame row (class_there m d there) both.0) in
         let values : Arguments = arguments_low g lows (kinds_of_params g m) target.throws f target.free in
         let values_ok : ArgumentsFit p args g values (param_kinds d) =
-            subst (λ ks. ArgumentsFit p args g (arguments_low g lows ks target.throws f target.free) (param_kinds d)) (sym kinds_are)
-            (arguments_fit p args g well same inline d.params as_ target.throws k f target.free on_args frame target_ok.row (params_known m d there) both.1) in
+        subst (λ ks. ArgumentsFit p args g (arguments_low g lows ks target.throws f target.free) (param_kinds d)) (sym kinds_are)
+        (arguments_fit p args g well same inline d.params as_ target.throws k f target.free on_args frame target_ok.row (params_known m d there) both.1) in
         let body : Lowered = inline m target.place values.places wanted f values.free in
         let body_ok : FitsAt p args g body (result_of d) =
-            inlines.fits m d target.place values.places wanted k f values.free there frame values_ok.row (receiver_at p args g well same inline d target.place target_ok.place) values_ok.places in
+        inlines.fits m d target.place values.places wanted k f values.free there frame values_ok.row (receiver_at p args g well same inline d target.place target_ok.place) values_ok.places in
         let r : ℕ = b + slot g (kind_or (kind_of_result g m) kind.Int) in
         let known : is_kind_of g.unit (kind_or (kind_of_result g m) kind.Int) ≡ true = ap (is_kind_of g.unit) result_is ∙ result_known m d there in
         let spot : Spot args g r (result_of d) = subst (Spot args g r) result_is (at_slot args g b (kind_or (kind_of_result g m) kind.Int) row known) in
@@ -74,8 +75,8 @@ module _ (p : Posed) (args : List Kind) (g : Ground) (well : IsWell g.unit) (sam
         let entered : List Plan = entered_low g f values.free (class_of_method g m) target.place last in
         let last_ok : Fit p (Spot args g) last = value_fits p args g well same inline wanted r (result_of d) body spot body_ok in
         let entered_ok : Fit p (Spot args g) entered =
-            subst (λ c. Fit p (Spot args g) (entered_low g f values.free c target.place last)) (sym class_is)
-            (entered_fits p args g well same inline d k f values.free target.place last frame values_ok.row (class_there m d there) target_ok.place last_ok) in
+        subst (λ c. Fit p (Spot args g) (entered_low g f values.free c target.place last)) (sym class_is)
+        (entered_fits p args g well same inline d k f values.free target.place last frame values_ok.row (class_there m d there) target_ok.place last_ok) in
         record {
           steps = fit_append p (Spot args g) target.steps (values.steps ++ guarded f values.throws entered) target_ok.steps
               (fit_append p (Spot args g) values.steps (guarded f values.throws entered) values_ok.steps (guarded_fits p args g f values.throws entered frame.done entered_ok));

@@ -1,9 +1,8 @@
 -- The kinds of lowered operators and calls, and with them of every expression of code.
-use Rattle.std.proofs.Common.{◌≡◌, ℕ, ◌+◌, Bool, true, false, List, [], ◌∷◌, ◌++◌, length, Option, Some, None, refl, sym, ◌∙◌, ap, subst}
-use Rattle.std.specs.Prelude.{ℤ, not, ◌&&◌, ◌||◌, nat_lt, map, slice_get, option_map}
+use Rattle.std.proofs.Common.{◌≡◌, ℕ, ◌+◌, Bool, true, false, List, [], ◌∷◌, length, Option, Some, None, refl, sym, ◌∙◌, subst}
+use Rattle.std.specs.Prelude.{not, ◌&&◌, ◌||◌, nat_lt, map, slice_get, option_map}
 use Rattle.std.specs.List.{list_all}
-use Rattle.std.specs.Option.{option_map_or}
-use Rattle.std.proofs.lemmas.Bool.{false≢true, and_parts, lt-ltb}
+use Rattle.std.proofs.lemmas.Bool.{false≢true, and_parts}
 use Rattle.taco_unit.specs.declared.kind.Kind.{Kind}
 use Rattle.taco_unit.specs.declared.kind.Kind.TheVariants as kind
 use Rattle.taco_unit.specs.declared.expr.Expr.{Expr}
@@ -11,20 +10,20 @@ use Rattle.taco_unit.specs.declared.expr.Op.{Op}
 use Rattle.taco_unit.specs.declared.expr.Op.TheVariants as op
 use Rattle.taco_unit.specs.declared.unit.MethodDef.{MethodDef}
 use Rattle.taco_unit.specs.declared.unit.ParamDef.{ParamDef}
-use Rattle.taco_unit.specs.Kinds.{Sort, Of, Sorted, Around, suits, alike, where_, sort_of, is_kind_of, is_object_of, are_arguments, binary_sort, operator_sort}
-use Rattle.taco_unit.specs.Well.{IsWell, receiver_of, result_kind, param_kinds}
+use Rattle.taco_unit.specs.Kinds.{Of, Sorted, Around, suits, alike, sort_of, is_kind_of, is_object_of, are_arguments, binary_sort, operator_sort}
+use Rattle.taco_unit.specs.Well.{IsWell, receiver_of, param_kinds}
 use Rattle.taco_unit.proofs.KindForms.{is_target_of}
 use Rattle.heap_core.specs.declared.value.Value.TheVariants.{Flag}
 use Rattle.heap_core.specs.Posed.{Posed}
 use Rattle.dyn_core.specs.declared.prog.Act.TheVariants.{Copy, Const, Sum, Diff, Product, Same, Below}
 use Rattle.dyn_plan.specs.declared.plan.Plan.{Plan}
 use Rattle.dyn_plan.specs.declared.plan.Plan.TheVariants as l
-use Rattle.dyn_plan.specs.Places.{Ground, Spots, slot, behind}
-use Rattle.dyn_plan.specs.Guards.{Lowered, guarded, through}
-use Rattle.dyn_plan.specs.Expressions.{Low, Inline, Arguments, Target, kind_or, kind_of_op, common_kind, operand_kind, as_truth, combined_low, class_of_method, kinds_of_params, kind_of_result, with_first, arguments_low, target_low, entered_low, with_value_at, with_target, low_expr}
+use Rattle.dyn_plan.specs.Places.{Ground, Spots, behind}
+use Rattle.dyn_plan.specs.Guards.{Lowered, guarded}
+use Rattle.dyn_plan.specs.Expressions.{Low, Inline, Arguments, Target, common_kind, as_truth, combined_low, arguments_low, target_low, entered_low, with_value_at, low_expr}
 use Rattle.dyn_plan.specs.Frames.{result_of}
 use Rattle.dyn_plan.proofs.FitSteps.{Fit, fit_none, fit_append, fit_do}
-use Rattle.dyn_plan.proofs.FitPlaces.{IsRow, Spot, row_behind, at_slot, at_flag, FrameFits, FitsAt, guarded_fits, constant_fits, through_fits}
+use Rattle.dyn_plan.proofs.FitPlaces.{IsRow, Spot, row_behind, at_flag, FrameFits, FitsAt, guarded_fits, constant_fits, through_fits}
 use Rattle.dyn_plan.proofs.FitExprs.{ExprFits, common_suits, both_fit, truth_fits, short_fits, then_turned}
 use Rattle.dyn_plan.proofs.EndParts.{kinds_same, where_suits, in_clause_never}
 use Rattle.dyn_plan.proofs.EndCalls.{object_suits}
@@ -99,27 +98,27 @@ module _ (p : Posed) (args : List Kind) (g : Ground) (well : IsWell g.unit) (sam
       let both = and_parts (suits kind.Int (s k)) (suits kind.Int (t k)) parts.0 in
       as_wanted p args g (combined_low g op.Le a c f b) w kind.Flag (kinds_same w kind.Flag parts.1)
       (both_fit p args g well same op.Le s t a c kind.Int k f b first second frame row refl both.0 both.1 refl
-          (λ r z x y sr sz sx sy. then_turned p args g well same (Below r y x) r sr (sr, sy, sx)))
+      (λ r z x y sr sz sx sy. then_turned p args g well same (Below r y x) r sr (sr, sy, sx)))
   combined_fits op.Ge s t a c w k f b first second frame row is =
       let parts = where_suits (suits kind.Int (s k) && suits kind.Int (t k)) (Of kind.Flag) w is in
       let both = and_parts (suits kind.Int (s k)) (suits kind.Int (t k)) parts.0 in
       as_wanted p args g (combined_low g op.Ge a c f b) w kind.Flag (kinds_same w kind.Flag parts.1)
       (both_fit p args g well same op.Ge s t a c kind.Int k f b first second frame row refl both.0 both.1 refl
-          (λ r z x y sr sz sx sy. then_turned p args g well same (Below r x y) r sr (sr, sx, sy)))
+      (λ r z x y sr sz sx sy. then_turned p args g well same (Below r x y) r sr (sr, sx, sy)))
   combined_fits op.Eq s t a c w k f b first second frame row is =
       let parts = where_suits (alike (s k) (t k)) (Of kind.Flag) w is in
       let v : Kind = common_kind (a.kind f) (c.kind f) in
       let common = common_suits g.unit (s k) (t k) (a.kind f) (c.kind f) (first.kind k f frame) (second.kind k f frame) parts.0 frame.some_class in
       as_wanted p args g (combined_low g op.Eq a c f b) w kind.Flag (kinds_same w kind.Flag parts.1)
       (both_fit p args g well same op.Eq s t a c v k f b first second frame row common.known common.left common.right refl
-          (λ r z x y sr sz sx sy. fit_do p (Spot args g) (Same r x y) (sr, (v, sx, sy))))
+      (λ r z x y sr sz sx sy. fit_do p (Spot args g) (Same r x y) (sr, (v, sx, sy))))
   combined_fits op.Ne s t a c w k f b first second frame row is =
       let parts = where_suits (alike (s k) (t k)) (Of kind.Flag) w is in
       let v : Kind = common_kind (a.kind f) (c.kind f) in
       let common = common_suits g.unit (s k) (t k) (a.kind f) (c.kind f) (first.kind k f frame) (second.kind k f frame) parts.0 frame.some_class in
       as_wanted p args g (combined_low g op.Ne a c f b) w kind.Flag (kinds_same w kind.Flag parts.1)
       (both_fit p args g well same op.Ne s t a c v k f b first second frame row common.known common.left common.right refl
-          (λ r z x y sr sz sx sy. then_turned p args g well same (Same r x y) r sr (sr, (v, sx, sy))))
+      (λ r z x y sr sz sx sy. then_turned p args g well same (Same r x y) r sr (sr, (v, sx, sy))))
   combined_fits op.And s t a c w k f b first second frame row is =
       let parts = where_suits (suits kind.Flag (s k) && suits kind.Flag (t k)) (Of kind.Flag) w is in
       let both = and_parts (suits kind.Flag (s k)) (suits kind.Flag (t k)) parts.0 in

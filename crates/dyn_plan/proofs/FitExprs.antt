@@ -2,27 +2,27 @@
 use Rattle.std.proofs.Common.{◌≡◌, ℕ, ◌+◌, Bool, true, false, List, [], ◌∷◌, ◌++◌, length, Option, Some, None, refl, sym, ◌∙◌, ap, subst}
 use Rattle.std.specs.Prelude.{◌==◌, ◌&&◌, ◌||◌, nat_lt, slice_get}
 use Rattle.std.specs.Option.{option_map_or}
-use Rattle.std.proofs.lemmas.Bool.{false≢true, and_parts, lt-ltb}
+use Rattle.std.proofs.lemmas.Bool.{false≢true, lt-ltb}
 use Rattle.taco_unit.specs.declared.kind.Kind.{Kind}
 use Rattle.taco_unit.specs.declared.kind.Kind.TheVariants as kind
 use Rattle.taco_unit.specs.declared.expr.Op.{Op}
 use Rattle.taco_unit.specs.declared.expr.Op.TheVariants as op
 use Rattle.taco_unit.specs.declared.unit.FieldDef.{FieldDef}
 use Rattle.taco_unit.specs.Parts.{Parts}
-use Rattle.taco_unit.specs.Kinds.{Sort, Of, NullOnly, Faulty, NoValue, Sorted, Around, Form, Code as InCode, Entry, Exit, Past, suits, alike, where_, is_kind_of, is_class_kind, field_sort, binary_sort, operator_sort, in_clause}
+use Rattle.taco_unit.specs.Kinds.{Sort, Of, NullOnly, Faulty, NoValue, Sorted, Around, Form, Code as InCode, Entry, Exit, Past, suits, alike, where_, is_kind_of, field_sort}
+use Rattle.taco_unit.specs.Kinds.{binary_sort, operator_sort, in_clause}
 use Rattle.taco_unit.specs.Well.{IsWell}
-use Rattle.heap_core.specs.declared.value.Value.TheVariants.{Flag}
 use Rattle.heap_core.specs.Posed.{Posed}
 use Rattle.dyn_core.specs.declared.prog.Act.{Act}
-use Rattle.dyn_core.specs.declared.prog.Act.TheVariants.{Const, Sum, Diff, Product, Same, Below, Read}
+use Rattle.dyn_core.specs.declared.prog.Act.TheVariants.{Same, Read}
 use Rattle.dyn_plan.specs.declared.plan.Plan.{Plan}
 use Rattle.dyn_plan.specs.declared.plan.Plan.TheVariants as l
 use Rattle.dyn_plan.specs.Places.{Ground, Spots, slot, behind, flag_of}
 use Rattle.dyn_plan.specs.Guards.{Lowered, guarded, through}
-use Rattle.dyn_plan.specs.Expressions.{Low, kind_of_field, class_of_field, kind_of_op, common_kind, operand_kind, operation, behind_both, after_both, as_truth, combined_low, after_one, read_low}
-use Rattle.dyn_plan.proofs.FitSteps.{Fit, FitAct, fit_none, fit_append, fit_do, fit_if}
-use Rattle.dyn_plan.proofs.FitPlaces.{IsRow, Spot, row_next, row_behind, at_slot, at_number, at_flag, flag_spot, FrameFits, FitsAt, guarded_fits, constant_fits, through_fits}
-use Rattle.dyn_plan.proofs.EndParts.{kinds_same, where_suits, in_clause_never, same_itself}
+use Rattle.dyn_plan.specs.Expressions.{Low, kind_of_field, class_of_field, kind_of_op, common_kind, operation, behind_both, after_both, as_truth, after_one, read_low}
+use Rattle.dyn_plan.proofs.FitSteps.{Fit, FitAct, fit_append, fit_do, fit_if}
+use Rattle.dyn_plan.proofs.FitPlaces.{IsRow, Spot, row_behind, at_slot, at_flag, flag_spot, FrameFits, FitsAt, guarded_fits, through_fits}
+use Rattle.dyn_plan.proofs.EndParts.{kinds_same, same_itself}
 use Rattle.dyn_plan.proofs.EndExprs.{field_sorted}
 
 -- the kind of an expression in its frame is that of its sort
@@ -63,7 +63,8 @@ binary_agrees u op.Implies f s t =
 binary_agrees u op.Iff f s t =
     clause_agrees u f (where_ (suits kind.Flag s && suits kind.Flag t) (Of kind.Flag)) (Some kind.Flag) (where_agrees u (suits kind.Flag s && suits kind.Flag t) kind.Flag refl)
 
-pub field_agrees : (u : Parts) (o : Option FieldDef) (s : Sort) → ((d : FieldDef) → o ≡ Some d → is_kind_of u d.kind ≡ true) → Agrees u (field_sort o s) (Some (option_map_or (λ d. d.kind) o kind.Int))
+pub field_agrees : (u : Parts) (o : Option FieldDef) (s : Sort) → ((d : FieldDef) → o ≡ Some d → is_kind_of u d.kind ≡ true)
+    → Agrees u (field_sort o s) (Some (option_map_or (λ d. d.kind) o kind.Int))
 field_agrees u None s known = tt
 field_agrees u (Some d) (Of (kind.Ref c)) known = where_agrees u (d.class == c) d.kind (known d refl)
 field_agrees u (Some d) (Of kind.Int) known = tt
@@ -97,7 +98,8 @@ module _ (p : Posed) (args : List Kind) (g : Ground) (well : IsWell g.unit) (sam
 
   -- an operand, and an action on it
   pub one_fits : (sort : Sorted) (x : Low) (v w : Kind) (r : ℕ) (act : Act) (k : Around) (f : Spots) (b : ℕ) → ExprFits p args g sort x → FrameFits args g k f → IsRow g b
-      → is_kind_of g.unit v ≡ true → suits v (sort k) ≡ true → Spot args g r w → (Spot args g (x.low v f b).place v → FitAct p (Spot args g) act) → FitsAt p args g (after_one f (x.low v f b) r act) w
+      → is_kind_of g.unit v ≡ true → suits v (sort k) ≡ true → Spot args g r w → (Spot args g (x.low v f b).place v → FitAct p (Spot args g) act)
+      → FitsAt p args g (after_one f (x.low v f b) r act) w
   one_fits sort x v w r act k f b claim frame row known is spot fit =
       let operand = claim.fits v k f b frame row known is in
       record {
@@ -133,7 +135,8 @@ module _ (p : Posed) (args : List Kind) (g : Ground) (well : IsWell g.unit) (sam
       let object : Spot args g o.place (kind.Ref d.class) = subst (λ c. Spot args g o.place (kind.Ref c)) class_is operand.place in
       let value : Spot args g r d.kind = subst (Spot args g r) kind_is spot in
       let act = fit_do p (Spot args g) (Read r o.place i) (record { declared = d; there = ap (λ u. slice_get u.fields i) same ∙ there; object = object; value = value }) in
-      let inner = through_fits p args g f (behind g b o.place) (class_of_field g i) o.place (l.Do (Read r o.place i) ∷ []) frame.done frame.thrown (row_behind g b o.place row) known_class operand.place act in
+      let inner = through_fits p args g f (behind g b o.place) (class_of_field g i) o.place (l.Do (Read r o.place i) ∷ []) frame.done frame.thrown
+      (row_behind g b o.place row) known_class operand.place act in
       let steps : List Plan = through g f (behind g b o.place) (class_of_field g i) o.place (l.Do (Read r o.place i) ∷ []) in
       record {
         steps = fit_append p (Spot args g) o.steps (guarded f o.throws steps) operand.steps (guarded_fits p args g f o.throws steps frame.done inner);
@@ -168,7 +171,7 @@ module _ (p : Posed) (args : List Kind) (g : Ground) (well : IsWell g.unit) (sam
       record {
         steps = fit_append p (Spot args g) x.steps (guarded f x.throws y.steps ++ guarded f (x.throws || y.throws) steps) fits_x.steps
             (fit_append p (Spot args g) (guarded f x.throws y.steps) (guarded f (x.throws || y.throws) steps) (guarded_fits p args g f x.throws y.steps frame.done fits_y.steps)
-                (guarded_fits p args g f (x.throws || y.throws) steps frame.done done));
+            (guarded_fits p args g f (x.throws || y.throws) steps frame.done done));
         place = spot;
       }
 

@@ -1,39 +1,31 @@
 -- The kinds of every lowered expression of code, where inlined methods fit.
-use Rattle.std.proofs.Common.{◌≡◌, ℕ, ◌+◌, Bool, true, false, List, [], ◌∷◌, length, Option, Some, None, refl, sym, ◌∙◌, ap, subst}
-use Rattle.std.specs.Prelude.{ℤ, ◌&&◌, nat_lt, map, slice_get, option_map}
-use Rattle.std.specs.Option.{option_map_or}
+use Rattle.std.proofs.Common.{◌≡◌, ℕ, ◌+◌, Bool, true, false, List, length, Option, Some, None, refl, sym, ◌∙◌, ap, subst}
+use Rattle.std.specs.Prelude.{ℤ, nat_lt, slice_get}
 use Rattle.std.proofs.lemmas.Bool.{false≢true}
 use Rattle.taco_unit.specs.declared.kind.Kind.{Kind}
 use Rattle.taco_unit.specs.declared.kind.Kind.TheVariants as kind
-use Rattle.taco_unit.specs.declared.expr.Expr.{Expr, ind-Expr, roll-Expr, map-Expr}
-use Rattle.taco_unit.specs.declared.expr.Expr.TheOpen.{Expr-F, Call-F}
+use Rattle.taco_unit.specs.declared.expr.Expr.{Expr}
+use Rattle.taco_unit.specs.declared.expr.Expr.TheOpen.{Expr-F}
 use Rattle.taco_unit.specs.declared.expr.Expr.TheVariants as e
-use Rattle.taco_unit.specs.declared.expr.Call.{Call, out-Call, roll-Call, map-Call}
-use Rattle.taco_unit.specs.declared.expr.Quant.{Quant}
-use Rattle.taco_unit.specs.declared.expr.Reach.{Reach}
-use Rattle.taco_unit.specs.declared.unit.MethodDef.{MethodDef}
-use Rattle.taco_unit.specs.Parts.{Parts}
-use Rattle.taco_unit.specs.Kinds.{Sort, Of, NullOnly, Faulty, NoValue, Sorted, Around, Form, Code as InCode, Entry, Exit, Past, suits, where_, is_kind_of, sort_of, sort_of_kind, sort_of_class, field_sort, binary_sort, operator_sort, in_code, in_clause, in_exit, has_sort, size_sort, past, are_arguments, result_sort}
-use Rattle.taco_unit.specs.Well.{IsWell, result_kind}
-use Rattle.taco_unit.proofs.KindForms.{sort_of_call, called_as, is_target_of, sort_num, sort_flag, sort_null, sort_this, sort_local, sort_read, sort_neg, sort_not, sort_bin, sort_new, sort_call, sort_result, sort_bound, sort_quant, sort_old, sort_has, sort_size, call_form as call_sorted}
+use Rattle.taco_unit.specs.Kinds.{Sort, Of, NullOnly, Faulty, Sorted, Around, Form, Code as InCode, Entry, Exit, Past, suits, where_, is_kind_of, sort_of, sort_of_kind}
+use Rattle.taco_unit.specs.Kinds.{sort_of_class, field_sort, in_code}
+use Rattle.taco_unit.specs.Well.{IsWell}
+use Rattle.taco_unit.proofs.KindForms.{sort_num, sort_flag, sort_null, sort_this, sort_local, sort_read, sort_neg, sort_not, sort_new}
 use Rattle.heap_core.specs.declared.value.Value.TheVariants.{Num}
 use Rattle.heap_core.specs.Posed.{Posed}
 use Rattle.dyn_core.specs.declared.prog.Act.TheVariants.{Const, Diff, Same, Make}
 use Rattle.dyn_plan.specs.Places.{Ground, Spots, slot, zero_number, flag_of}
-use Rattle.dyn_plan.specs.Guards.{Lowered, in_place, null_at}
-use Rattle.dyn_plan.specs.Expressions.{Low, Inline, this_low, found, kind_or, kind_of_field, kind_of_op, kind_of_result, expr_step, low_expr, low_call}
-use Rattle.dyn_plan.specs.Frames.{result_of}
-use Rattle.dyn_plan.proofs.LowForms.{is_num, is_flag, is_null, is_this, is_result, is_local, is_bound, is_read, is_neg, is_not, is_bin, is_quant, is_old, is_has, is_size, is_new, is_call, kind_called}
+use Rattle.dyn_plan.specs.Guards.{in_place, null_at}
+use Rattle.dyn_plan.specs.Expressions.{Low, Inline, this_low, found, kind_of_field, expr_step, low_expr}
+use Rattle.dyn_plan.proofs.LowForms.{is_num, is_flag, is_null, is_this, is_local, is_read, is_neg, is_not, is_new}
 use Rattle.dyn_plan.proofs.FitSteps.{fit_none, fit_do}
-use Rattle.dyn_plan.proofs.FitPlaces.{IsRow, Spot, at_slot, at_number, at_flag, zero_spot, flag_spot, FrameFits, ThisFits, LocalFits, FitsAt, null_fits}
-use Rattle.dyn_plan.proofs.FitExprs.{Agrees, ExprFits, where_agrees, binary_agrees, field_agrees, one_fits, read_fits}
-use Rattle.dyn_plan.proofs.FitCalls.{as_wanted, InlineFits, EachFits, MaybeFits, combined_fits}
-use Rattle.dyn_plan.proofs.FitAll.{call_fits}
+use Rattle.dyn_plan.proofs.FitPlaces.{Spot, at_slot, at_number, at_flag, zero_spot, flag_spot, FrameFits, ThisFits, FitsAt, null_fits}
+use Rattle.dyn_plan.proofs.FitExprs.{Agrees, ExprFits, where_agrees, field_agrees, one_fits, read_fits}
+use Rattle.dyn_plan.proofs.FitCalls.{as_wanted}
 use Rattle.dyn_plan.proofs.EndParts.{kinds_same, where_suits, in_code_suits}
-use Rattle.dyn_plan.proofs.EndCalls.{called_suits}
 
 module _ (p : Posed) (args : List Kind) (g : Ground) where
-  formed : (s t : Sorted) (x y : Low) → ((k : Around) → s k ≡ t k) → x ≡ y → ExprFits p args g t y → ExprFits p args g s x
+  pub formed : (s t : Sorted) (x y : Low) → ((k : Around) → s k ≡ t k) → x ≡ y → ExprFits p args g t y → ExprFits p args g s x
   formed s t x y sorts lows claim = record {
     kind = λ k f frame. subst (λ z. Agrees g.unit (s k) (z.kind f)) (sym lows) (subst (λ z. Agrees g.unit z (y.kind f)) (sym (sorts k)) (claim.kind k f frame));
     fits = λ w k f b frame row known is.
@@ -41,13 +33,13 @@ module _ (p : Posed) (args : List Kind) (g : Ground) where
   }
 
   -- forms that do not stand in code
-  never : (s : Sorted) (x : Low) → ((k : Around) (f : Spots) → FrameFits args g k f → s k ≡ Faulty) → ExprFits p args g s x
+  pub never : (s : Sorted) (x : Low) → ((k : Around) (f : Spots) → FrameFits args g k f → s k ≡ Faulty) → ExprFits p args g s x
   never s x faulty = record {
     kind = λ k f frame. subst (λ z. Agrees g.unit z (x.kind f)) (sym (faulty k f frame)) tt;
     fits = λ w k f b frame row known is. absurd (false≢true (subst (λ z. suits w z ≡ true) (faulty k f frame) is));
   }
 
-  code_agrees : (f : Form) (s : Sort) (o : Option Kind) → Agrees g.unit s o → Agrees g.unit (in_code f s) o
+  pub code_agrees : (f : Form) (s : Sort) (o : Option Kind) → Agrees g.unit s o → Agrees g.unit (in_code f s) o
   code_agrees InCode s o is = is
   code_agrees Entry s o is = tt
   code_agrees Exit s o is = tt
@@ -88,7 +80,7 @@ module _ (p : Posed) (args : List Kind) (g : Ground) where
 module _ (p : Posed) (args : List Kind) (g : Ground) (well : IsWell g.unit) (same : p.unit ≡ g.unit) (inline : Inline) where
   -- ## forms without a call
 
-  num_fits : (z : ℤ) → ExprFits p args g (sort_of (e.Num z)) (low_expr g inline (e.Num z))
+  pub num_fits : (z : ℤ) → ExprFits p args g (sort_of (e.Num z)) (low_expr g inline (e.Num z))
   num_fits z = formed p args g (sort_of (e.Num z)) (λ k. Of kind.Int) (low_expr g inline (e.Num z)) (expr_step g (Expr-F.Num z)) (sort_num z) (is_num g inline z) (record {
     kind = λ k f frame. (refl, refl);
     fits = λ w k f b frame row known is.
@@ -96,31 +88,32 @@ module _ (p : Posed) (args : List Kind) (g : Ground) (well : IsWell g.unit) (sam
         (record { steps = fit_do p (Spot args g) (Const b (Num z)) (kind.Int, at_number args g b row, refl); place = at_number args g b row });
   })
 
-  flag_fits : (x : Bool) → ExprFits p args g (sort_of (e.Flag x)) (low_expr g inline (e.Flag x))
+  pub flag_fits : (x : Bool) → ExprFits p args g (sort_of (e.Flag x)) (low_expr g inline (e.Flag x))
   flag_fits x = formed p args g (sort_of (e.Flag x)) (λ k. Of kind.Flag) (low_expr g inline (e.Flag x)) (expr_step g (Expr-F.Flag x)) (sort_flag x) (is_flag g inline x) (record {
     kind = λ k f frame. (refl, refl);
     fits = λ w k f b frame row known is.
         as_wanted p args g (in_place (flag_of g x)) w kind.Flag (kinds_same w kind.Flag is) (record { steps = fit_none p (Spot args g); place = flag_spot args g x });
   })
 
-  null_form : ExprFits p args g (sort_of e.Null) (low_expr g inline e.Null)
+  pub null_form : ExprFits p args g (sort_of e.Null) (low_expr g inline e.Null)
   null_form = formed p args g (sort_of e.Null) (λ k. NullOnly) (low_expr g inline e.Null) (expr_step g Expr-F.Null) sort_null (is_null g inline)
       (record { kind = λ k f frame. refl; fits = λ w k f b frame row known is. null_by p args g w b known is })
 
-  this_form : ExprFits p args g (sort_of e.This) (low_expr g inline e.This)
+  pub this_form : ExprFits p args g (sort_of e.This) (low_expr g inline e.This)
   this_form = formed p args g (sort_of e.This) (λ k. sort_of_class k.this) (low_expr g inline e.This) (expr_step g Expr-F.This) sort_this (is_this g inline) (record {
     kind = λ k f frame. this_agrees p args g f k.this frame.this;
     fits = λ w k f b frame row known is. this_fits p args g f w b k.this frame.this is;
   })
 
-  local_form : (i : ℕ) → ExprFits p args g (sort_of (e.Local i)) (low_expr g inline (e.Local i))
+  pub local_form : (i : ℕ) → ExprFits p args g (sort_of (e.Local i)) (low_expr g inline (e.Local i))
   local_form i =
-      formed p args g (sort_of (e.Local i)) (λ k. sort_of_kind (slice_get k.locals i)) (low_expr g inline (e.Local i)) (expr_step g (Expr-F.Local i)) (sort_local i) (is_local g inline i) (record {
+      formed p args g (sort_of (e.Local i)) (λ k. sort_of_kind (slice_get k.locals i)) (low_expr g inline (e.Local i)) (expr_step g (Expr-F.Local i)) (sort_local i)
+      (is_local g inline i) (record {
         kind = λ k f frame. local_agrees p args g k f i frame (slice_get k.locals i) refl;
         fits = λ w k f b frame row known is. local_fits p args g k f i b w frame (slice_get k.locals i) refl is;
       })
 
-  read_form : (a : Expr) (i : ℕ) → ExprFits p args g (sort_of a) (low_expr g inline a) → ExprFits p args g (sort_of (e.Read a i)) (low_expr g inline (e.Read a i))
+  pub read_form : (a : Expr) (i : ℕ) → ExprFits p args g (sort_of a) (low_expr g inline a) → ExprFits p args g (sort_of (e.Read a i)) (low_expr g inline (e.Read a i))
   read_form a i claim =
       formed p args g (sort_of (e.Read a i)) (λ k. field_sort (slice_get k.unit.fields i) (sort_of a k)) (low_expr g inline (e.Read a i)) (expr_step g (Expr-F.Read (low_expr g inline a) i))
       (sort_read a i) (is_read g inline a i) (record {
@@ -130,7 +123,7 @@ module _ (p : Posed) (args : List Kind) (g : Ground) (well : IsWell g.unit) (sam
         fits = λ w k f b frame row known is. read_fits p args g well same (sort_of a) (low_expr g inline a) i w k f b claim frame row is;
       })
 
-  neg_form : (a : Expr) → ExprFits p args g (sort_of a) (low_expr g inline a) → ExprFits p args g (sort_of (e.Neg a)) (low_expr g inline (e.Neg a))
+  pub neg_form : (a : Expr) → ExprFits p args g (sort_of a) (low_expr g inline a) → ExprFits p args g (sort_of (e.Neg a)) (low_expr g inline (e.Neg a))
   neg_form a claim =
       formed p args g (sort_of (e.Neg a)) (λ k. where_ (suits kind.Int (sort_of a k)) (Of kind.Int)) (low_expr g inline (e.Neg a)) (expr_step g (Expr-F.Neg (low_expr g inline a))) (sort_neg a)
       (is_neg g inline a) (record {
@@ -143,7 +136,7 @@ module _ (p : Posed) (args : List Kind) (g : Ground) (well : IsWell g.unit) (sam
             (λ place. (at_number args g b row, zero_spot args g, place)));
       })
 
-  not_form : (a : Expr) → ExprFits p args g (sort_of a) (low_expr g inline a) → ExprFits p args g (sort_of (e.Not a)) (low_expr g inline (e.Not a))
+  pub not_form : (a : Expr) → ExprFits p args g (sort_of a) (low_expr g inline a) → ExprFits p args g (sort_of (e.Not a)) (low_expr g inline (e.Not a))
   not_form a claim =
       formed p args g (sort_of (e.Not a)) (λ k. where_ (suits kind.Flag (sort_of a k)) (Of kind.Flag)) (low_expr g inline (e.Not a)) (expr_step g (Expr-F.Not (low_expr g inline a))) (sort_not a)
       (is_not g inline a) (record {
@@ -156,9 +149,10 @@ module _ (p : Posed) (args : List Kind) (g : Ground) (well : IsWell g.unit) (sam
             (at_flag args g b row) (λ place. (at_flag args g b row, (kind.Flag, place, flag_spot args g false))));
       })
 
-  new_form : (c : ℕ) → ExprFits p args g (sort_of (e.New c)) (low_expr g inline (e.New c))
+  pub new_form : (c : ℕ) → ExprFits p args g (sort_of (e.New c)) (low_expr g inline (e.New c))
   new_form c =
-      formed p args g (sort_of (e.New c)) (λ k. in_code k.form (where_ (nat_lt c (length k.unit.classes)) (Of (kind.Ref c)))) (low_expr g inline (e.New c)) (expr_step g (Expr-F.New c)) (sort_new c)
+      formed p args g (sort_of (e.New c)) (λ k. in_code k.form (where_ (nat_lt c (length k.unit.classes)) (Of (kind.Ref c)))) (low_expr g inline (e.New c)) (expr_step g
+      (Expr-F.New c)) (sort_new c)
       (is_new g inline c) (record {
         kind = λ k f frame.
             subst (λ u. Agrees g.unit (in_code k.form (where_ (nat_lt c (length u.classes)) (Of (kind.Ref c)))) (Some (kind.Ref c))) (sym frame.unit)

@@ -1,8 +1,7 @@
 -- Steps whose kinds fit, whatever kinds stand behind the greatest variable that they name.
-use Rattle.std.proofs.Common.{◌≡◌, ℕ, ◌≤◌, Bool, true, false, List, [], ◌∷◌, ◌++◌, Option, Some, None, refl, sym, ◌∙◌, ap, subst, arith}
-use Rattle.std.specs.Prelude.{◌==◌, ◌&&◌, map, max, slice_get}
+use Rattle.std.proofs.Common.{◌≡◌, ℕ, ◌≤◌, true, false, List, [], ◌∷◌, ◌++◌, Some, refl, ap, subst, arith}
+use Rattle.std.specs.Prelude.{map, max, slice_get}
 use Rattle.std.specs.List.{list_all}
-use Rattle.std.specs.Option.{option_map_or}
 use Rattle.std.proofs.Math.Nat.{le-max_left, le-max_right, max-le}
 use Rattle.std.proofs.lemmas.Bool.{eq-eqb}
 use Rattle.std.proofs.lemmas.List.Folds.{list_all-append}
@@ -22,7 +21,7 @@ use Rattle.dyn_plan.specs.declared.plan.Plan.TheVariants as l
 use Rattle.dyn_plan.specs.Programs.{program_of_step}
 use Rattle.dyn_plan.specs.Whole.{greatest_of_act, greatest_step, greatest}
 use Rattle.dyn_plan.proofs.PlanForms.{program_do, program_fail, program_if, program_while}
-use Rattle.dyn_plan.proofs.LowForms.{greatest_do, greatest_fail, greatest_if, greatest_while}
+use Rattle.dyn_plan.proofs.LowForms.{greatest_do, greatest_if, greatest_while}
 
 -- kinds that tell of each variable up to m what K tells of it
 abbrev pub Knows : (ℕ → Kind → Type 0) → List Kind → ℕ → Type 0
@@ -161,7 +160,18 @@ fit_if p K x taken other flag first second = alone p K (l.If x taken other) (λ 
     let b = second.kinded kinds (knows_less K kinds m (greatest other) low.2 known) in
     let xs : List Prog = q.Test x true ∷ map program_of_step taken in
     let ys : List Prog = q.Test x false ∷ map program_of_step other in
-    rw (program_if x taken other, kinded_choice p kinds (q.Seq xs ∷ q.Seq ys ∷ []), kinded_seq p kinds xs, kinded_seq p kinds ys, kinded_test p kinds x true, kinded_test p kinds x false, test, a, b) refl)
+    rw (
+      program_if x taken other,
+      kinded_choice p kinds
+          (q.Seq xs ∷ q.Seq ys ∷ []),
+      kinded_seq p kinds xs,
+      kinded_seq p kinds ys,
+      kinded_test p kinds x true,
+      kinded_test p kinds x false,
+      test,
+      a,
+      b,
+    ) refl)
 
 pub fit_while : (p : Posed) (K : ℕ → Kind → Type 0) (x : ℕ) (body : List Plan) → K x Flag → Fit p K body → Fit p K (l.While x body ∷ [])
 fit_while p K x body flag first = alone p K (l.While x body) (λ kinds knows.
@@ -171,5 +181,13 @@ fit_while p K x body flag first = alone p K (l.While x body) (λ kinds knows.
     let a = first.kinded kinds (knows_less K kinds m (greatest body) (le-max_right x (greatest body)) known) in
     let xs : List Prog = q.Test x true ∷ map program_of_step body in
     let turn : Prog = q.Star (q.Seq xs) in
-    rw (program_while x body, kinded_seq p kinds (turn ∷ q.Test x false ∷ []), kinded_star p kinds (q.Seq xs), kinded_seq p kinds xs, kinded_test p kinds x true,
-    kinded_test p kinds x false, test, a) refl)
+    rw (
+      program_while x body,
+      kinded_seq p kinds (turn ∷ q.Test x false ∷ []),
+      kinded_star p kinds (q.Seq xs),
+      kinded_seq p kinds xs,
+      kinded_test p kinds x true,
+      kinded_test p kinds x false,
+      test,
+      a,
+    ) refl)

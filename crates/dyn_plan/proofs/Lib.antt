@@ -29,3 +29,5 @@ pub mod FitExprs
 pub mod FitCalls
 pub mod FitAll
 pub mod FitForms
+pub mod FitEvery
+pub mod FitBlocks

@@ -27,7 +27,8 @@ use Rattle.dyn_plan.proofs.Shown.{set, IsKept, kept_same, Stands, Remembers, IsF
 use Rattle.dyn_plan.proofs.Operations.{IsDefined, did, number_defined}
 use Rattle.dyn_plan.proofs.ExprShown.{or_left, or_right, Claim}
 use Rattle.dyn_plan.proofs.Operations.{numbers_defined}
-use Rattle.dyn_plan.proofs.StmtShown.{exit_wanted, with_locals, Ended, StmtClaim, ended_from, ended_weaker, ends_nowhere, wanted_goes, wanted_stops, operand_does, local_set, set_local_is, set_shows}
+use Rattle.dyn_plan.proofs.StmtShown.{exit_wanted, with_locals, Ended, StmtClaim, ended_from, ended_weaker, ends_nowhere, wanted_goes, wanted_stops, operand_does, local_set}
+use Rattle.dyn_plan.proofs.StmtShown.{set_local_is, set_shows}
 
 -- ## blocks
 

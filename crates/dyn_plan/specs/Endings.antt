@@ -1,5 +1,5 @@
 -- How executions of a well unit end: with whole objects, and with a result of its kind. (This project's own.)
-use Rattle.std.specs.Prelude.{ℕ, ◌≤◌, List, length, Option, Some, None, IsTrue}
+use Rattle.std.specs.Prelude.{ℕ, ◌≤◌, length, Option, Some, None, IsTrue}
 use Rattle.std.specs.List.{list_all}
 use Rattle.taco_unit.specs.declared.kind.Kind.{Kind}
 use Rattle.taco_unit.specs.declared.unit.MethodDef.{MethodDef}

@@ -1,60 +1,25 @@
 -- A relation that is another but for the objects of a set, by rows of gates.
-use Rattle.std.proofs.Common.{
-  ◌≡◌,
-  ℕ,
-  zero,
-  suc,
-  ◌+◌,
-  ◌*◌,
-  ◌<◌,
-  ◌≤◌,
-  Bool,
-  true,
-  false,
-  not,
-  ◌&&◌,
-  ◌||◌,
-  List,
-  [],
-  ◌∷◌,
-  length,
-  get_or,
-  refl,
-  sym,
-  subst,
-  ap,
-  ◌∙◌,
-  arith,
-  inl,
-  inr,
-  add-one,
-  Option,
-  Some,
-  None,
-  is_some,
-}
-use Rattle.std.specs.Prelude.{◌==◌, nat_lt, if◌then◌else◌, IsTrue}
+use Rattle.std.proofs.Common.{◌≡◌, ℕ, ◌+◌, ◌*◌, ◌<◌, ◌≤◌, Bool, true, false, not, ◌&&◌, ◌||◌, List, length, get_or, refl, sym, subst, ap, ◌∙◌, arith, add-one, Some, None, is_some}
+use Rattle.std.specs.Prelude.{◌==◌, nat_lt, if◌then◌else◌}
 use Rattle.std.specs.List.{list_all, range_with_len}
 use Rattle.std.specs.Option.{option_map_or}
-use Rattle.std.proofs.lemmas.Bool.{false≢true, true≢false, and_parts, and_from, or_left, or_right, not-true, lt-ltb, cases_Bool}
+use Rattle.std.proofs.lemmas.Bool.{false≢true, and_parts, and_from, or_left, or_right, not-true, lt-ltb}
 use Rattle.gate_core.specs.declared.circuit.Node.{Node}
 use Rattle.gate_core.specs.Circuit.{value, IsOf, Keeps}
 use Rattle.gate_arith.specs.Numbers.{differ}
 use Rattle.gate_arith.specs.Operations.{IsTruth}
-use Rattle.gate_sets.specs.Lists.{at}
 use Rattle.gate_sets.specs.Shapes.{are_same}
 use Rattle.heap_core.specs.Posed.{Posed}
 use Rattle.rel_core.specs.declared.relation.RelVar.{RelVar}
-use Rattle.rel_core.specs.declared.relation.What.{What}
 use Rattle.rel_core.specs.declared.sets.RelExpr.{RelExpr}
 use Rattle.rel_core.specs.declared.formula.Formula.TheVariants as f
-use Rattle.rel_core.specs.Reading.{Reading, same_what, numbers_below}
-use Rattle.rel_core.specs.Meaning.{has_object, set_of, same_at, is_changed, holds}
-use Rattle.rel_core.specs.Uses.{Kinds, Use, use_of, has_use, has_place, is_slot, is_sorted_set, can_change, is_sorted, IsOf as IsOfProblem, same_use}
+use Rattle.rel_core.specs.Reading.{same_what, numbers_below}
+use Rattle.rel_core.specs.Meaning.{has_object, set_of, same_at}
+use Rattle.rel_core.specs.Uses.{Kinds, Use, use_of, has_use, has_place, is_slot, is_sorted_set, can_change, same_use}
 use Rattle.rel_core.proofs.Forms.{holds_changed, sorted_changed}
 use Rattle.rel_gates.specs.Shown.{Named, gates_of, width_of, in_row}
 use Rattle.rel_gates.specs.Naming.{spread_use}
-use Rattle.rel_gates.specs.Meant.{Stand, reference_at, IsSeen, AreSet, IsTruthOf}
+use Rattle.rel_gates.specs.Meant.{Stand, reference_at, AreSet, IsTruthOf}
 use Rattle.rel_gates.specs.Changes.{row_changes, rows_change}
 use Rattle.rel_gates.proofs.FormulaFits.{spread_use-is, same_use-refl}
 use Rattle.rel_gates.proofs.Growing.{AgreesWith, agree_to, same_what-is}
@@ -124,7 +89,8 @@ changed_truth p es old new e r given before u set members new_rows given_rows gi
       let parts = and_parts (is_sorted_set p kinds e) (can_change p kinds r given before) (sym (sorted_changed p kinds r e given before) ∙ sorted) in
       let change = change_sorted p kinds u r given before its parts.1 in
       let inside = has_object (set_of e m) in
-      let agree = λ (s : RelVar) (rows : List ℕ) (found : gates_of es s ≡ Some rows). subst (λ gs. AgreesWith p kinds t gs m s) found (agree_to p kinds t es m s (earlier.agrees s (ap is_some found))) in
+      let agree = λ (s : RelVar) (rows : List ℕ) (found : gates_of es s ≡ Some rows). subst (λ gs. AgreesWith p kinds t gs m s) found (agree_to p kinds t es m s
+      (earlier.agrees s (ap is_some found))) in
       truth.value_is inputs
       ∙ ap (λ n. list_all (row_changes w t members new_rows given_row old_rows) (range_with_len 0 n)) long
       ∙ all_alike (row_changes w t members new_rows given_row old_rows) (λ o. if inside o then same_at m r o given 0 else same_at m r o before o) 0 p.scope.objects (λ o under.

@@ -1,48 +1,10 @@
 -- Class numbers that are shown are those of classes, exactly where the gates say so.
-use Rattle.std.proofs.Common.{
-  ◌≡◌,
-  ℕ,
-  zero,
-  suc,
-  ◌+◌,
-  ◌*◌,
-  ◌<◌,
-  ◌≤◌,
-  Bool,
-  true,
-  false,
-  not,
-  ◌&&◌,
-  ◌||◌,
-  List,
-  [],
-  ◌∷◌,
-  ◌++◌,
-  length,
-  map,
-  take,
-  get_or,
-  All,
-  refl,
-  sym,
-  subst,
-  ap,
-  ◌∙◌,
-  arith,
-  inl,
-  inr,
-  ℤ,
-  pos,
-  Option,
-  Some,
-  None,
-  is_some,
-}
+use Rattle.std.proofs.Common.{◌≡◌, ℕ, zero, suc, ◌+◌, ◌*◌, ◌<◌, ◌≤◌, Bool, true, false, not, ◌&&◌, ◌||◌, List, [], ◌∷◌, ◌++◌, length, map, take, get_or, All, refl, sym, subst, ap, ◌∙◌, arith, inl, inr, pos, Option, Some, None, is_some}
 use Rattle.std.specs.Prelude.{◌==◌, nat_lt, slice_get, option_map, if◌then◌else◌}
 use Rattle.std.specs.List.{list_all, range_with_len}
 use Rattle.std.specs.Ordering.{int_eq}
 use Rattle.std.specs.Option.{option_map_or}
-use Rattle.std.proofs.lemmas.Bool.{false≢true, true≢false, cases_Bool, cases_lt, and_parts, and_from, or_cases, or_right, ltb-true, lt-ltb, le-ltb, eqb-true}
+use Rattle.std.proofs.lemmas.Bool.{false≢true, cases_Bool, cases_lt, and_parts, and_from, or_cases, ltb-true, lt-ltb, le-ltb}
 use Rattle.std.proofs.lemmas.Bool.Decides.{Decides-int_eq}
 use Rattle.std.proofs.lemmas.Option.{slice_get_cases, slice_get_within, get_or_from_slice_get}
 use Rattle.std.proofs.lemmas.List.{take_more}
@@ -62,8 +24,8 @@ use Rattle.rel_core.specs.declared.relation.RelVar.{RelVar}
 use Rattle.rel_core.specs.declared.relation.What.{What}
 use Rattle.rel_core.specs.declared.relation.What.TheVariants as what
 use Rattle.rel_core.specs.Reading.{Reading, same_relation}
-use Rattle.rel_core.specs.Uses.{Kinds, AsNumber, AsClass, is_slot, same_use, use_of_kind, use_of, has_use, has_place, is_class_number, can_have, IsOf}
-use Rattle.rel_gates.specs.Shown.{Named, gates_of, class_bits, row_bits, number_shown, reading_shown, Agrees}
+use Rattle.rel_core.specs.Uses.{Kinds, AsNumber, AsClass, is_slot, same_use, use_of_kind, has_use, has_place, is_class_number, can_have, IsOf}
+use Rattle.rel_gates.specs.Shown.{Named, gates_of, class_bits, row_bits, number_shown, Agrees}
 use Rattle.rel_gates.specs.Naming.{IsOnce, Counted, ClassesFit}
 use Rattle.rel_gates.specs.Limits.{rows_fit, is_class_of, is_fitting, all_fit, ClassesCounted}
 use Rattle.rel_gates.proofs.Growing.{same_relation-is, agree_to, stands_same}

@@ -1,38 +1,6 @@
 -- The gates of formulas that are made of formulas.
-use Rattle.std.proofs.Common.{
-  ◌≡◌,
-  ℕ,
-  zero,
-  suc,
-  ◌+◌,
-  ◌<◌,
-  ◌≤◌,
-  Bool,
-  true,
-  false,
-  not,
-  ◌&&◌,
-  ◌||◌,
-  List,
-  [],
-  ◌∷◌,
-  ◌++◌,
-  length,
-  get_or,
-  All,
-  refl,
-  sym,
-  subst,
-  ap,
-  ◌∙◌,
-  arith,
-  inl,
-  inr,
-  add-one,
-  Some,
-  length-append,
-}
-use Rattle.std.specs.Prelude.{slice_get, IsTrue}
+use Rattle.std.proofs.Common.{◌≡◌, ℕ, suc, ◌+◌, Bool, true, false, not, ◌&&◌, ◌||◌, List, [], ◌∷◌, ◌++◌, length, get_or, refl, sym, subst, ap, ◌∙◌, arith, inl, inr, Some, length-append}
+use Rattle.std.specs.Prelude.{slice_get}
 use Rattle.std.specs.List.{list_all, list_any}
 use Rattle.std.proofs.lemmas.Bool.{cases_lt, and_parts}
 use Rattle.std.proofs.lemmas.List.{get_or_append_left, get_or_at}
@@ -48,12 +16,11 @@ use Rattle.heap_core.specs.Outcomes.{same_flag}
 use Rattle.heap_core.proofs.Lists.{slice_get-append_left, slice_get-append_right, all_at}
 use Rattle.rel_core.specs.declared.formula.Formula.{Formula}
 use Rattle.rel_core.specs.declared.formula.Formula.TheVariants as f
-use Rattle.rel_core.specs.Reading.{Reading}
 use Rattle.rel_core.specs.Meaning.{holds}
-use Rattle.rel_core.specs.Uses.{Kinds, is_sorted}
+use Rattle.rel_core.specs.Uses.{is_sorted}
 use Rattle.rel_core.proofs.Forms.{holds_const, holds_not, holds_and, holds_or, holds_same, sorted_not, sorted_and, sorted_or, sorted_same}
 use Rattle.rel_gates.specs.Shown.{Named}
-use Rattle.rel_gates.specs.Meant.{Stand, IsSeen, IsTruthOf}
+use Rattle.rel_gates.specs.Meant.{Stand, IsTruthOf}
 use Rattle.rel_gates.specs.Parts.{AreTruthsOf}
 use Rattle.rel_gates.proofs.OfSets.{seen_before}
 

@@ -1,5 +1,5 @@
 -- How many parts a number has: those of each part are fewer.
-use Rattle.std.proofs.Common.{◌≡◌, ℕ, ◌+◌, ◌<◌, refl, sym, subst, ◌∙◌, arith}
+use Rattle.std.proofs.Common.{◌≡◌, ℕ, ◌+◌, ◌<◌, refl, sym, subst, arith}
 use Rattle.rel_core.specs.declared.numbers.NumExpr.{NumExpr, fold-NumExpr, fold_out-NumExpr}
 use Rattle.rel_core.specs.declared.numbers.NumExpr.TheOpen.{NumExpr-F}
 use Rattle.rel_core.specs.declared.numbers.NumExpr.TheVariants as n

@@ -1,9 +1,9 @@
 -- The uses of sorted formulas are by their kinds.
 use Rattle.std.proofs.Common.{◌≡◌, ◌*◌, true, false, not, ◌&&◌, List, [], ◌∷◌, ◌++◌, Option, Some, None, refl, sym, subst, ap, ◌∙◌}
-use Rattle.std.specs.Prelude.{ℕ, Bool, IsTrue, if◌then◌else◌}
+use Rattle.std.specs.Prelude.{ℕ, Bool, if◌then◌else◌}
 use Rattle.std.specs.List.{list_all, flat_map}
 use Rattle.std.specs.Option.{option_map_or}
-use Rattle.std.proofs.lemmas.Bool.{false≢true, true≢false, and_parts, not-true}
+use Rattle.std.proofs.lemmas.Bool.{true≢false, and_parts, not-true}
 use Rattle.std.proofs.lemmas.Grind.{flat_map-append}
 use Rattle.std.proofs.lemmas.List.Folds.{list_all-append}
 use Rattle.heap_core.specs.Posed.{Posed}
@@ -15,10 +15,10 @@ use Rattle.rel_core.specs.declared.numbers.NumExpr.{NumExpr}
 use Rattle.rel_core.specs.declared.formula.Formula.{Formula}
 use Rattle.rel_core.specs.declared.formula.Formula.TheVariants as f
 use Rattle.rel_core.specs.Reading.{same_what}
-use Rattle.rel_core.specs.Uses.{Kinds, Use, AsSet, AsNumber, AsFlag, AsClass, same_use, use_of, has_use, is_slot, is_spread, is_variable, is_sorted_set, is_sorted_number, can_change, is_sorted}
+use Rattle.rel_core.specs.Uses.{Kinds, Use, AsSet, AsNumber, AsFlag, AsClass, same_use, use_of, has_use, is_slot, is_spread, is_sorted_set, is_sorted_number, can_change, is_sorted}
 use Rattle.rel_core.proofs.Forms.{sorted_flag, sorted_flag_at, sorted_subset, sorted_is_class, sorted_same_number, sorted_below, sorted_fits, sorted_changed, sorted_not, sorted_and, sorted_or, sorted_same}
-use Rattle.rel_gates.specs.Shown.{rows_of, width_of, gate_count}
-use Rattle.rel_gates.specs.Naming.{Wanted, wanted_one, wanted_each, wanted_rows, set_uses, number_uses, spread_use, changed_uses, uses, FitsUse, FitUses, SetFits, NumberFits, FormulaFits, PartsFit}
+use Rattle.rel_gates.specs.Shown.{width_of}
+use Rattle.rel_gates.specs.Naming.{wanted_one, wanted_each, wanted_rows, set_uses, number_uses, spread_use, changed_uses, uses, FitsUse, FitUses, SetFits, NumberFits, FormulaFits, PartsFit}
 use Rattle.rel_gates.proofs.FormulaUses.{uses_constant, uses_flag, uses_flag_at, uses_subset, uses_is_class, uses_same_number, uses_below, uses_fits, uses_changed, uses_not, uses_and, uses_or, uses_same}
 use Rattle.rel_gates.proofs.Fitting.{fits_one, fits_each, fit_none, fit_one, fit_both}
 use Rattle.rel_gates.proofs.Growing.{same_what-is}

@@ -1,12 +1,12 @@
 -- New inputs behind others.
-use Rattle.std.proofs.Common.{◌≡◌, ℕ, ◌+◌, ◌-◌, ◌*◌, ◌<◌, ◌≤◌, Bool, true, false, List, ◌++◌, length, get_or, refl, sym, subst, ap, ◌∙◌, arith, inl, inr, length-append}
+use Rattle.std.proofs.Common.{◌≡◌, ℕ, ◌+◌, ◌-◌, ◌<◌, ◌≤◌, Bool, true, false, List, ◌++◌, length, get_or, sym, subst, ap, ◌∙◌, arith, inl, inr, length-append}
 use Rattle.std.proofs.lemmas.Bool.{cases_lt}
 use Rattle.std.proofs.lemmas.List.{get_or_append_left, get_or-append_right}
 use Rattle.std.proofs.lemmas.List.Elements.{All-append}
 use Rattle.std.proofs.lemmas.Option.{slice_get_within}
 use Rattle.gate_core.specs.declared.circuit.Node.{Node}
 use Rattle.gate_core.specs.declared.circuit.Node.TheVariants.{Input}
-use Rattle.gate_core.specs.Circuit.{value, IsOf, Keeps, StandsAt}
+use Rattle.gate_core.specs.Circuit.{value, IsOf}
 use Rattle.gate_core.proofs.Values.{keeps_twice, all_more, value_decided}
 use Rattle.rel_gates.specs.Naming.{ShowsAll, IsOwn, AreInputs}
 use Rattle.rel_gates.proofs.Fresh.{own_kept}

@@ -8,6 +8,7 @@ pub mod NumberUses
 pub mod Depths
 pub mod ClassBits
 pub mod FormulaUses
+pub mod FormulaParts
 pub mod FormulaFits
 pub mod OfSets
 pub mod OfGraphs

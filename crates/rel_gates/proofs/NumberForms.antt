@@ -1,50 +1,7 @@
 -- The gates of each form of a number that has no numbers within.
-use Rattle.std.proofs.Common.{
-  ◌≡◌,
-  ℕ,
-  zero,
-  suc,
-  ◌+◌,
-  ◌-◌,
-  ◌*◌,
-  ◌^◌,
-  ◌<◌,
-  ◌≤◌,
-  Bool,
-  true,
-  false,
-  ◌&&◌,
-  List,
-  [],
-  ◌∷◌,
-  ◌++◌,
-  length,
-  map,
-  drop,
-  cond,
-  get_or,
-  All,
-  refl,
-  sym,
-  subst,
-  ap,
-  ◌∙◌,
-  arith,
-  inl,
-  inr,
-  add-one,
-  ℤ,
-  pos,
-  negsuc,
-  ◌-ℤ◌,
-  Option,
-  Some,
-  None,
-  is_some,
-  length-append,
-}
+use Rattle.std.proofs.Common.{◌≡◌, ℕ, zero, suc, ◌+◌, ◌-◌, ◌*◌, ◌^◌, ◌<◌, ◌≤◌, Bool, true, false, List, [], ◌∷◌, ◌++◌, length, map, cond, get_or, refl, sym, subst, ap, ◌∙◌, arith, add-one, ℤ, pos, negsuc, ◌-ℤ◌, Option, Some, None, is_some, length-append}
 use Rattle.std.specs.Prelude.{if◌then◌else◌, int_lt, IsTrue, filter, count_by, unwrap_or}
-use Rattle.std.specs.List.{list_any, range_with_len}
+use Rattle.std.specs.List.{range_with_len}
 use Rattle.std.specs.Option.{option_map_or}
 use Rattle.std.proofs.lemmas.Bool.{and_parts, le-ltb}
 use Rattle.std.proofs.lemmas.Int.{ints}
@@ -65,7 +22,6 @@ use Rattle.heap_core.specs.Posed.{Posed}
 use Rattle.heap_core.specs.Outcomes.{in_bits}
 use Rattle.rel_core.specs.declared.relation.RelVar.{RelVar}
 use Rattle.rel_core.specs.declared.sets.RelExpr.{RelExpr}
-use Rattle.rel_core.specs.declared.numbers.NumExpr.{NumExpr}
 use Rattle.rel_core.specs.declared.numbers.NumExpr.TheVariants as n
 use Rattle.rel_core.specs.Reading.{Reading, numbers_below}
 use Rattle.rel_core.specs.Meaning.{has_object, only, set_of, fitting, number_of}
@@ -73,7 +29,7 @@ use Rattle.rel_core.specs.Uses.{Kinds, AsNumber, AsClass, is_variable, is_spread
 use Rattle.rel_core.proofs.Forms.{number_const, number_var, number_at, number_count, sorted_number_var, sorted_number_at, sorted_number_count}
 use Rattle.rel_gates.specs.Shown.{Named, gates_of, class_bits, in_row, row_bits, number_shown}
 use Rattle.rel_gates.specs.Constants.{digit}
-use Rattle.rel_gates.specs.Counted.{low_part, IsStanding, counted, IsNumberOf}
+use Rattle.rel_gates.specs.Counted.{low_part, counted, IsNumberOf}
 use Rattle.rel_gates.specs.Meant.{Stand, reference_at, IsSeen, AreSet}
 use Rattle.rel_gates.proofs.AtOnly.{only_alike}
 use Rattle.rel_gates.proofs.BitRows.{map_places, bits_of_truths, number_of_constants, row_same}
@@ -104,7 +60,8 @@ variable_number_is p es nodes r rows there found wide some stand constant = reco
       let agree = (agree_to p kinds (value inputs nodes) es m r (seen.agrees r (ap is_some found))).1 0 in
       let read = number_read p kinds m r (value inputs nodes) rows 0 (subst (λ gs. m.number r 0 ≡ number_shown p kinds (value inputs nodes) gs r 0) found agree)
       (variable_place p kinds AsNumber r is some) in
-      let row : bits inputs nodes rows ≡ row_bits (value inputs nodes) p.scope.ints rows 0 = row_same (value inputs nodes) rows rows p.scope.ints 0 wide (λ i below. (let same : i ≡ 0 * p.scope.ints + i = omega arith in ap (λ k. get_or rows k 0) same)) in
+      let row : bits inputs nodes rows ≡ row_bits (value inputs nodes) p.scope.ints rows 0 = row_same (value inputs nodes) rows rows p.scope.ints 0 wide (λ i below.
+      (let same : i ≡ 0 * p.scope.ints + i = omega arith in ap (λ k. get_or rows k 0) same)) in
       always nodes rows there inputs (m.number r 0) (constant.value_is inputs) (ap signed row ∙ read) ∙ sym (number_var r m);
 }
 
@@ -247,7 +204,8 @@ constant_number_is p es nodes z low top constants last there wide low_is are sig
     by inputs true fits =
         let there_is : low ≡ Some (low_part top z) = low_is ∙ ap (λ b. if b then Some (low_part top z) else None) fits in
         ap (λ o. if is_some o then Some (shown nodes (constants ++ last ∷ []) inputs) else None) there_is
-        ∙ ap Some (signed_constant nodes p.scope.ints top z constants last inputs wide fits (subst (λ o. AreTruths nodes top (λ inputs i. digit (unwrap_or o 0) i) constants) there_is are) (sign_is.value_is inputs))
+        ∙ ap Some (signed_constant nodes p.scope.ints top z constants last inputs wide fits (subst (λ o. AreTruths nodes top (λ inputs i. digit (unwrap_or o 0) i) constants) there_is are)
+        (sign_is.value_is inputs))
         ∙ sym (ap (λ b. if b then Some z else None) fits)
     by inputs false lacks =
         let none : low ≡ None = low_is ∙ ap (λ b. if b then Some (low_part top z) else None) lacks in

@@ -1,80 +1,24 @@
 -- The gates of numbers under the readings that the inputs show.
-use Rattle.std.proofs.Common.{
-  ◌≡◌,
-  ℕ,
-  zero,
-  suc,
-  ◌+◌,
-  ◌-◌,
-  ◌*◌,
-  ◌^◌,
-  ◌<◌,
-  ◌≤◌,
-  Bool,
-  true,
-  false,
-  ◌&&◌,
-  List,
-  [],
-  ◌∷◌,
-  ◌++◌,
-  length,
-  map,
-  get_or,
-  All,
-  refl,
-  sym,
-  subst,
-  ap,
-  ◌∙◌,
-  arith,
-  inl,
-  inr,
-  ℤ,
-  pos,
-  ◌+ℤ◌,
-  ◌-ℤ◌,
-  ◌*ℤ◌,
-  Option,
-  Some,
-  None,
-}
-use Rattle.std.specs.Prelude.{if◌then◌else◌, IsTrue, int_lt}
-use Rattle.std.specs.Ordering.{int_eq}
-use Rattle.std.specs.List.{range_with_len}
+use Rattle.std.proofs.Common.{◌≡◌, ℕ, Bool, true, false, ◌&&◌, List, get_or, refl, sym, ap, ◌∙◌, arith, inl, inr, ℤ, ◌+ℤ◌, ◌-ℤ◌, ◌*ℤ◌, Some, None}
+use Rattle.std.specs.Prelude.{if◌then◌else◌}
 use Rattle.std.proofs.lemmas.Bool.{cases_Bool, and_parts}
 use Rattle.gate_core.specs.declared.circuit.Node.{Node}
 use Rattle.gate_core.specs.Circuit.{value, IsOf, Keeps}
 use Rattle.gate_core.proofs.Values.{of_more, all_more, keeps_twice}
 use Rattle.gate_arith.specs.Numbers.{signed}
-use Rattle.gate_arith.specs.Operations.{bits, shown, IsTruth, IsNumber}
+use Rattle.gate_arith.specs.Operations.{shown, IsTruth, IsNumber}
 use Rattle.gate_arith.proofs.Ripple.{bits_keep}
 use Rattle.heap_core.specs.Posed.{Posed}
 use Rattle.heap_core.specs.Outcomes.{in_bits}
-use Rattle.rel_core.specs.declared.relation.RelVar.{RelVar}
 use Rattle.rel_core.specs.declared.sets.RelExpr.{RelExpr}
 use Rattle.rel_core.specs.declared.numbers.NumExpr.{NumExpr}
 use Rattle.rel_core.specs.declared.numbers.NumExpr.TheVariants as n
-use Rattle.rel_core.specs.declared.formula.Formula.TheVariants as f
 use Rattle.rel_core.specs.Reading.{Reading}
-use Rattle.rel_core.specs.Meaning.{fitting, with_both, number_of, holds}
-use Rattle.rel_core.specs.Uses.{Kinds, is_sorted_number, is_sorted}
-use Rattle.rel_core.proofs.Forms.{
-  number_sum,
-  number_diff,
-  number_product,
-  sorted_number_sum,
-  sorted_number_diff,
-  sorted_number_product,
-  holds_same_number,
-  holds_below,
-  holds_fits,
-  sorted_same_number,
-  sorted_below,
-  sorted_fits,
-}
+use Rattle.rel_core.specs.Meaning.{fitting, with_both, number_of}
+use Rattle.rel_core.specs.Uses.{Kinds, is_sorted_number}
+use Rattle.rel_core.proofs.Forms.{number_sum, number_diff, number_product, sorted_number_sum, sorted_number_diff, sorted_number_product}
 use Rattle.rel_gates.specs.Shown.{Named}
-use Rattle.rel_gates.specs.Meant.{Stand, IsSeen, AreSet, IsTruthOf}
+use Rattle.rel_gates.specs.Meant.{Stand, AreSet}
 use Rattle.rel_gates.specs.Counted.{IsStanding, counted, IsNumberOf, IsOperation, IsComparison}
 use Rattle.rel_gates.proofs.OfSets.{seen_before}
 

@@ -1,8 +1,8 @@
 -- The gates of formulas on numbers, and of classes.
-use Rattle.std.proofs.Common.{◌≡◌, ℕ, ◌+◌, ◌*◌, ◌<◌, ◌≤◌, Bool, true, false, not, ◌&&◌, ◌||◌, List, length, get_or, refl, sym, subst, ap, ◌∙◌, arith, inl, inr, add-one, ℤ, pos, Option, Some, None, is_some}
-use Rattle.std.specs.Prelude.{◌==◌, nat_lt, int_lt, if◌then◌else◌, IsTrue}
+use Rattle.std.proofs.Common.{◌≡◌, ℕ, ◌+◌, ◌<◌, ◌≤◌, Bool, true, false, not, ◌&&◌, ◌||◌, List, length, refl, sym, subst, ap, ◌∙◌, arith, inl, inr, add-one, ℤ, pos, Some, None, is_some}
+use Rattle.std.specs.Prelude.{◌==◌, nat_lt, int_lt, if◌then◌else◌}
 use Rattle.std.specs.Ordering.{int_eq}
-use Rattle.std.specs.List.{list_all, range_with_len}
+use Rattle.std.specs.List.{list_all}
 use Rattle.std.proofs.lemmas.Bool.{cases_Bool, and_parts, eqb-true}
 use Rattle.gate_core.specs.declared.circuit.Node.{Node}
 use Rattle.gate_core.specs.Circuit.{value, IsOf, Keeps}
@@ -17,12 +17,12 @@ use Rattle.rel_core.specs.declared.numbers.NumExpr.{NumExpr}
 use Rattle.rel_core.specs.declared.formula.Formula.{Formula}
 use Rattle.rel_core.specs.declared.formula.Formula.TheVariants as f
 use Rattle.rel_core.specs.Reading.{Reading, numbers_below}
-use Rattle.rel_core.specs.Meaning.{has_object, set_of, number_of, with_both, are_of, holds}
+use Rattle.rel_core.specs.Meaning.{has_object, set_of, number_of, with_both, holds}
 use Rattle.rel_core.specs.Uses.{Kinds, AsClass, is_slot, has_use, is_spread, is_sorted, is_sorted_set, is_sorted_number}
 use Rattle.rel_core.proofs.Forms.{holds_is_class, holds_same_number, holds_below, holds_fits, sorted_is_class, sorted_same_number, sorted_below, sorted_fits}
 use Rattle.rel_gates.specs.Shown.{Named, gates_of, class_bits, row_bits, number_shown}
 use Rattle.rel_gates.specs.Limits.{is_class_at}
-use Rattle.rel_gates.specs.Meant.{Stand, reference_at, IsSeen, AreSet, IsTruthOf}
+use Rattle.rel_gates.specs.Meant.{Stand, reference_at, AreSet, IsTruthOf}
 use Rattle.rel_gates.specs.Counted.{counted, IsNumberOf, IsComparison}
 use Rattle.rel_gates.proofs.BitRows.{same_numbers}
 use Rattle.rel_gates.proofs.ClassLimits.{class_what, class_read, class_below}

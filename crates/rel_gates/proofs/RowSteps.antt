@@ -1,12 +1,12 @@
 -- One row more that is another but for some objects.
-use Rattle.std.proofs.Common.{◌≡◌, ℕ, ◌+◌, ◌*◌, ◌<◌, Bool, not, ◌&&◌, List, length, get_or, All, sym, subst, ap, ◌∙◌, arith}
+use Rattle.std.proofs.Common.{◌≡◌, ℕ, ◌+◌, ◌*◌, ◌<◌, Bool, not, List, length, get_or, All, sym, subst, ap, ◌∙◌, arith}
 use Rattle.std.specs.Prelude.{if◌then◌else◌}
 use Rattle.std.proofs.lemmas.Nat.{mul-add-lt}
 use Rattle.gate_core.specs.declared.circuit.Node.{Node}
 use Rattle.gate_core.specs.Circuit.{value, IsOf, Keeps}
 use Rattle.gate_arith.specs.Numbers.{differ}
 use Rattle.gate_arith.specs.Operations.{IsTruth}
-use Rattle.gate_sets.specs.Lists.{at, AreTruths}
+use Rattle.gate_sets.specs.Lists.{at}
 use Rattle.gate_sets.specs.Shapes.{are_same}
 use Rattle.gate_sets.proofs.Standing.{truth_alike, read_kept}
 use Rattle.rel_gates.specs.Changes.{row_changes}
@@ -43,4 +43,5 @@ row_changed old middle third width count o members news given olds row_new row_o
     (λ i under.
     ap (λ b. if b then at middle given inputs i else at middle row_old inputs i) (read_kept old middle members inputs o inside keeps of_members (omega (arith, many, below)) is)
     ∙ ap (λ b. if value inputs old (get_or members o 0) then b else at middle row_old inputs i) (keeps.values inputs (get_or given i 0) (of_given i 0 (omega (arith, under, wide))))
-    ∙ ap (λ b. if value inputs old (get_or members o 0) then value inputs old (get_or given i 0) else b) (row_now old middle width o count olds row_old inputs i keeps of_olds below long_olds same_old under)))
+    ∙ ap (λ b. if value inputs old (get_or members o 0) then value inputs old (get_or given i 0)
+    else b) (row_now old middle width o count olds row_old inputs i keeps of_olds below long_olds same_old under)))

@@ -1,40 +1,5 @@
 -- Two rows of gates agree exactly where the relations have the same.
-use Rattle.std.proofs.Common.{
-  ◌≡◌,
-  ℕ,
-  zero,
-  suc,
-  ◌+◌,
-  ◌-◌,
-  ◌*◌,
-  ◌^◌,
-  ◌<◌,
-  ◌≤◌,
-  Bool,
-  true,
-  false,
-  not,
-  ◌&&◌,
-  ◌||◌,
-  List,
-  [],
-  ◌∷◌,
-  ◌++◌,
-  length,
-  map,
-  refl,
-  sym,
-  subst,
-  ap,
-  ◌∙◌,
-  arith,
-  inl,
-  inr,
-  ℤ,
-  pos,
-  ◌-ℤ◌,
-  Some,
-}
+use Rattle.std.proofs.Common.{◌≡◌, ℕ, zero, suc, ◌+◌, ◌-◌, ◌*◌, ◌^◌, ◌<◌, ◌≤◌, Bool, true, false, not, ◌&&◌, ◌||◌, List, [], ◌∷◌, map, refl, sym, subst, ap, ◌∙◌, arith, inl, inr, ℤ, pos, ◌-ℤ◌, Some}
 use Rattle.std.specs.Prelude.{nat_lt, if◌then◌else◌}
 use Rattle.std.specs.Ordering.{int_eq}
 use Rattle.std.specs.List.{list_all, range_with_len}
@@ -54,8 +19,8 @@ use Rattle.heap_core.specs.Outcomes.{in_bits, same_flag}
 use Rattle.rel_core.specs.declared.relation.RelVar.{RelVar}
 use Rattle.rel_core.specs.Reading.{Reading, is_reference, references}
 use Rattle.rel_core.specs.Meaning.{same_at}
-use Rattle.rel_core.specs.Uses.{Kinds, Use, AsSet, AsNumber, AsFlag, AsClass, same_use, is_slot, has_use, has_place, is_class_number, can_have, IsOf}
-use Rattle.rel_gates.specs.Shown.{class_bits, width_of, in_row, row_bits, number_shown, flag_shown}
+use Rattle.rel_core.specs.Uses.{Kinds, Use, AsSet, AsNumber, AsFlag, AsClass, same_use, is_slot, has_use, has_place, is_class_number, IsOf}
+use Rattle.rel_gates.specs.Shown.{class_bits, width_of, in_row, row_bits}
 use Rattle.rel_gates.specs.Meant.{reference_at}
 use Rattle.rel_gates.proofs.Wanted.{one_use}
 use Rattle.rel_gates.proofs.Digits.{map_alike}
@@ -269,7 +234,8 @@ sets_tell p kinds m truth of r s rows others o q first second =
 no_references : (p : Posed) (kinds : Kinds) (m : Reading) (u : Use) (r s : RelVar) (o q : ℕ) → IsOf p kinds m → has_use p kinds u r.what ≡ true → has_use p kinds u s.what ≡ true
     → same_use u AsSet ≡ false → same_use u u ≡ true → list_all (λ v. same_flag (m.refs r o v) (m.refs s q v)) (references m.objects) ≡ true
 no_references p kinds m u r s o q of mine its other one =
-    refs_none m r s o q (references m.objects) (λ v. no_refs p kinds m r o v of (no_place p kinds u AsSet r o mine other one)) (λ v. no_refs p kinds m s q v of (no_place p kinds u AsSet s q its other one))
+    refs_none m r s o q (references m.objects) (λ v. no_refs p kinds m r o v of (no_place p kinds u AsSet r o mine other one)) (λ v. no_refs p kinds m s q v of
+    (no_place p kinds u AsSet s q its other one))
 
 no_flags : (p : Posed) (kinds : Kinds) (m : Reading) (u : Use) (r s : RelVar) (o q : ℕ) → IsOf p kinds m → has_use p kinds u r.what ≡ true → has_use p kinds u s.what ≡ true
     → same_use u AsFlag ≡ false → same_use u u ≡ true → same_flag (m.flag r o) (m.flag s q) ≡ true
@@ -281,9 +247,11 @@ numbers_tell p kinds m truth wide of r s rows others o q first second =
     let mine = place_use p kinds AsNumber r o first.place in
     let its = place_use p kinds AsNumber s q second.place in
     let number_is : m.number r o ≡ signed (row_bits truth p.scope.ints rows o) =
-    first.agree.1 o ∙ ap (λ b. if b then signed (row_bits truth p.scope.ints rows o) else (if has_place p kinds AsClass r o then pos (number (row_bits truth (class_bits p) rows o)) else pos 0)) first.place in
+    first.agree.1 o ∙ ap (λ b. if b then signed (row_bits truth p.scope.ints rows o) else
+    (if has_place p kinds AsClass r o then pos (number (row_bits truth (class_bits p) rows o)) else pos 0)) first.place in
     let other_is : m.number s q ≡ signed (row_bits truth p.scope.ints others q) =
-    second.agree.1 q ∙ ap (λ b. if b then signed (row_bits truth p.scope.ints others q) else (if has_place p kinds AsClass s q then pos (number (row_bits truth (class_bits p) others q)) else pos 0)) second.place in
+    second.agree.1 q ∙ ap (λ b. if b then signed (row_bits truth p.scope.ints others q) else
+    (if has_place p kinds AsClass s q then pos (number (row_bits truth (class_bits p) others q)) else pos 0)) second.place in
     let test = int_eq (m.number r o) (m.number s q) in
     signed_test p.scope.ints (in_row truth p.scope.ints rows o) (in_row truth p.scope.ints others q) wide
     ∙ ap (λ z. int_eq z (signed (row_bits truth p.scope.ints others q))) (sym number_is) ∙ ap (int_eq (m.number r o)) (sym other_is)

@@ -1,41 +1,5 @@
 -- The relations of tuples are named one behind the other.
-use Rattle.std.proofs.Common.{
-  ◌≡◌,
-  ℕ,
-  zero,
-  suc,
-  ◌+◌,
-  ◌-◌,
-  ◌*◌,
-  ◌/◌,
-  ◌%◌,
-  ◌<◌,
-  ◌≤◌,
-  Bool,
-  true,
-  false,
-  List,
-  [],
-  ◌∷◌,
-  ◌++◌,
-  length,
-  map,
-  take,
-  drop,
-  get_or,
-  refl,
-  sym,
-  subst,
-  ap,
-  ◌∙◌,
-  arith,
-  inl,
-  inr,
-  Option,
-  Some,
-  None,
-  append_assoc,
-}
+use Rattle.std.proofs.Common.{◌≡◌, ℕ, zero, suc, ◌+◌, ◌-◌, ◌*◌, ◌/◌, ◌%◌, ◌<◌, ◌≤◌, Bool, false, List, [], ◌∷◌, ◌++◌, length, map, take, get_or, refl, sym, subst, ap, ◌∙◌, arith, inl, inr, Some, None, append_assoc}
 use Rattle.std.specs.Prelude.{◌==◌, slice_get, if◌then◌else◌}
 use Rattle.std.proofs.Math.Nat.{div-add-mod, div-lt_iff_lt-mul, mod-lt, mul_comm}
 use Rattle.std.proofs.lemmas.Bool.{false≢true, cases_Bool, cases_lt, eq-eqb}
@@ -46,12 +10,12 @@ use Rattle.gate_core.specs.Circuit.{IsOf}
 use Rattle.heap_core.specs.Posed.{Posed}
 use Rattle.tuple_sets.specs.Words.{has}
 use Rattle.rel_core.specs.declared.relation.RelVar.{RelVar}
-use Rattle.rel_core.specs.Reading.{Reading, same_relation}
+use Rattle.rel_core.specs.Reading.{same_relation}
 use Rattle.rel_core.specs.Uses.{Kinds, AsSet}
-use Rattle.rel_gates.specs.Shown.{Named, gates_of, rows_of, gate_count}
-use Rattle.rel_gates.specs.Naming.{Wanted, AreInputs, IsSmall, IsWithin, FitsUse, IsNaming, AreNamed}
+use Rattle.rel_gates.specs.Shown.{Named, gates_of, rows_of}
+use Rattle.rel_gates.specs.Naming.{Wanted, AreInputs, IsSmall, FitsUse, IsNaming}
 use Rattle.rel_gates.specs.Meant.{reference_at}
-use Rattle.rel_gates.specs.Rows.{total, IsTupleAt, IsTupleUse, AreApart, AreTupleUses, AreGatesFrom, NamesTuple, NamesTuples}
+use Rattle.rel_gates.specs.Rows.{total, IsTupleUse, AreApart, AreTupleUses, AreGatesFrom, NamesTuple, NamesTuples}
 use Rattle.rel_gates.proofs.Growing.{IsFree, same_relation-refl, found_first, found_last}
 use Rattle.rel_gates.proofs.InputLists.{inputs_both}
 use Rattle.rel_gates.proofs.Fresh.{no_inputs}
@@ -200,13 +164,15 @@ one_tuple_more before middle new upper wanted count es fs all longer x first at 
                 gates = old.gates;
                 there = ap (λ ns. gates_of ns y.0) one.named ∙ found_first es ((x.0, one.gates) ∷ []) y.0 old.gates old.there;
                 same = λ j inside. old.same j inside
-                    ∙ sym (ap (λ gs. get_or gs (total (take i wanted) + j) 0) one.behind ∙ get_or_append_left all one.gates 0 (total (take i wanted) + j) (omega (arith, inside, fits, first.inputs.wide)));
+                    ∙ sym (ap (λ gs. get_or gs (total (take i wanted) + j) 0) one.behind ∙ get_or_append_left all one.gates 0 (total (take i wanted) + j)
+                    (omega (arith, inside, fits, first.inputs.wide)));
               }
           | inr past ↦
               let last : i ≡ count = omega (arith, less, past) in
               let both : Some x ≡ Some y = sym at ∙ ap (slice_get wanted) (sym last) ∙ there in
               let equal : x ≡ y = cc in
-              subst (λ k. AreGatesFrom longer (total (take k wanted)) y.1 (gates_of fs y.0)) (sym last) (subst (λ u. AreGatesFrom longer (total (take count wanted)) u.1 (gates_of fs u.0)) equal (record {
+              subst (λ k. AreGatesFrom longer (total (take k wanted)) y.1 (gates_of fs y.0)) (sym last) (subst (λ u. AreGatesFrom longer (total (take count wanted)) u.1 (gates_of fs u.0))
+              equal (record {
                 gates = one.gates;
                 there = ap (λ ns. gates_of ns x.0) one.named ∙ found_last es ((x.0, one.gates) ∷ []) x.0 (none apart) ∙ ap (λ b. if b then Some one.gates else None) (same_relation-refl x.0);
                 same = λ j inside. sym (ap (λ gs. get_or gs (total (take count wanted) + j) 0) one.behind ∙ behind_all j);

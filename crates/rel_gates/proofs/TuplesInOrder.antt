@@ -38,7 +38,7 @@ use Rattle.std.specs.List.{range_with_len}
 use Rattle.std.specs.Option.{option_map_or}
 use Rattle.std.proofs.Math.Nat.{mul_comm}
 use Rattle.std.proofs.Math.Seq.{take-append-add}
-use Rattle.std.proofs.lemmas.Bool.{false≢true, true≢false, cases_Bool, cases_lt, and_left, ne_eqb, not-true}
+use Rattle.std.proofs.lemmas.Bool.{false≢true, cases_Bool, cases_lt, and_left, ne_eqb}
 use Rattle.std.proofs.lemmas.Nat.{mul-add-lt}
 use Rattle.std.proofs.lemmas.List.{length-append, length-map, take-append-le, take_all}
 use Rattle.std.proofs.lemmas.Option.{slice_get-map, slice_get_within}
@@ -49,8 +49,7 @@ use Rattle.taco_unit.specs.declared.unit.ParamDef.{ParamDef}
 use Rattle.taco_unit.specs.declared.unit.MethodDef.{MethodDef}
 use Rattle.taco_unit.specs.Kinds.{is_class_kind}
 use Rattle.taco_unit.specs.Well.{param_kinds}
-use Rattle.heap_core.specs.declared.value.Value.{Value}
-use Rattle.heap_core.specs.declared.value.Value.TheVariants.{Null, Obj}
+use Rattle.heap_core.specs.declared.value.Value.TheVariants.{Obj}
 use Rattle.heap_core.specs.Posed.{Posed}
 use Rattle.heap_core.specs.Start.{method_of}
 use Rattle.heap_core.proofs.Lists.{slice_get-append_left, slice_get-append_right}
@@ -62,8 +61,8 @@ use Rattle.rel_core.specs.declared.relation.RelVar.{RelVar}
 use Rattle.rel_core.specs.declared.relation.What.TheVariants as what
 use Rattle.rel_core.specs.Reading.{same_relation}
 use Rattle.rel_core.specs.Uses.{Kinds, GivesStart, receiver_kinds, start_kinds, use_of_kind, AsSet, same_use, has_use}
-use Rattle.rel_gates.specs.Shown.{variable_of, rows_of}
-use Rattle.rel_gates.specs.Naming.{Wanted, wanted_one, wanted_each}
+use Rattle.rel_gates.specs.Shown.{variable_of}
+use Rattle.rel_gates.specs.Naming.{wanted_one, wanted_each}
 use Rattle.rel_gates.specs.Meant.{reference_at}
 use Rattle.rel_gates.specs.Rows.{slot_first, field_first, roots_in, tuple_uses, total, IsTupleAt, IsTupleUse, AreApart, AreTupleUses}
 use Rattle.rel_gates.proofs.TupleNaming.{total-append}
@@ -164,7 +163,8 @@ before_link p k within =
     let roots = map (root_use p) (roots_in p) in
     let links = map (link_use p) (links_of p.unit) in
     let all : total roots ≡ length (roots_in p) * (p.scope.objects + 1) =
-    ap total (sym (take_all (length (roots_in p)) roots (omega (arith, root_length p)))) ∙ total_alike (root_use p) (p.scope.objects + 1) (roots_in p) (length (roots_in p)) (λ r. refl) (omega arith) in
+    ap total (sym (take_all (length (roots_in p)) roots (omega (arith, root_length p)))) ∙ total_alike (root_use p) (p.scope.objects + 1) (roots_in p) (length
+    (roots_in p)) (λ r. refl) (omega arith) in
     ap (λ n. total (take (n + k) (tuple_uses p))) (sym (root_length p))
     ∙ ap total (take-append-add roots links k) ∙ total-append roots (take k links)
     ∙ omega (arith, all, total_alike (link_use p) (p.scope.objects * (p.scope.objects + 1)) (links_of p.unit) k (λ f. refl) within)
@@ -279,7 +279,8 @@ link_places p m k f there at o j below within =
       tuple = Field f o (reference_at j);
       there = ap (slice_get (tuples p)) place
           ∙ tuple_right p m (first + later) (Field f o (reference_at j)) there (omega arith)
-          (ap (slice_get (tuples_of_links p.scope.objects (links_of p.unit))) rest ∙ field_tuple_at p.scope.objects (links_of p.unit) k o j f (reference_at j) at below (target_is p.scope.objects j within));
+          (ap (slice_get (tuples_of_links p.scope.objects (links_of p.unit))) rest ∙ field_tuple_at p.scope.objects (links_of p.unit) k o j f (reference_at j) at below
+          (target_is p.scope.objects j within));
       says = λ m. refl;
     }
 
@@ -300,7 +301,8 @@ tuple_uses_are p kinds m there start = record { apart = uses_apart p m there; us
           used = used_by (kinds (variable_of p r)) found.0 (start (variable_of p r) found.0 found.1) found.2;
           counted = omega arith;
           places = λ o j one within.
-              subst (λ n. IsTupleAt p (n + (o * (p.scope.objects + 1) + j)) (slot_first (variable_of p r)) o j) (sym (before_root p i (omega (arith, inside)))) (root_places p m i r there at o j one within);
+              subst (λ n. IsTupleAt p (n + (o * (p.scope.objects + 1) + j)) (slot_first (variable_of p r)) o j) (sym
+              (before_root p i (omega (arith, inside)))) (root_places p m i r there at o j one within);
         }
 
     of_link : (k f : ℕ) → slice_get (links_of p.unit) k ≡ Some f → IsTupleUse p kinds (total (take (length (roots_in p) + k) (tuple_uses p))) (link_use p f)

@@ -1,5 +1,5 @@
 -- The gates of numbers: their bits, and one gate that says whether the number is there. (This project's own.)
-use Rattle.std.specs.Prelude.{◌≡◌, ℕ, ◌-◌, ◌^◌, ℤ, pos, negsuc, Bool, true, false, List, length, Option, Some, None, IsTrue, All, if◌then◌else◌}
+use Rattle.std.specs.Prelude.{◌≡◌, ℕ, ◌-◌, ◌^◌, ℤ, pos, negsuc, Bool, false, List, length, Option, Some, None, IsTrue, All, if◌then◌else◌}
 use Rattle.gate_core.specs.declared.circuit.Node.{Node}
 use Rattle.gate_core.specs.Circuit.{value, IsOf}
 use Rattle.gate_arith.specs.Operations.{shown, IsTruth}

@@ -5,6 +5,7 @@
 mod bits;
 mod changes;
 mod classes;
+mod formulas;
 mod inputs;
 mod limits;
 mod members;

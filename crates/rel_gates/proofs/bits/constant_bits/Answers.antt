@@ -1,5 +1,5 @@
 -- One place more.
-use Rattle.std.proofs.Common.{◌≡◌, ℕ, suc, ◌+◌, ◌/◌, Bool, refl, sym, subst, ap, ◌∙◌, arith}
+use Rattle.std.proofs.Common.{◌≡◌, ℕ, suc, ◌+◌, Bool, refl, sym, subst, ap, ◌∙◌, arith}
 use Rattle.gate_core.proofs.Values.{keeps_same}
 use Rattle.gate_sets.specs.Lists.{AreTruths}
 use Rattle.gate_sets.proofs.Places.{truths_more}

@@ -1,5 +1,5 @@
 -- Both are numbers without a sign.
-use Rattle.std.proofs.Common.{ℕ, Bool, not, sym, ap, ◌∙◌}
+use Rattle.std.proofs.Common.{not, ap, ◌∙◌}
 use Rattle.std.specs.Prelude.{nat_lt, int_lt, pos}
 use Rattle.gate_arith.specs.Numbers.{number}
 use Rattle.gate_arith.specs.Operations.{bits, shown}

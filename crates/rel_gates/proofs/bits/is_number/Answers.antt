@@ -1,5 +1,5 @@
 -- Both are numbers without a sign.
-use Rattle.std.proofs.Common.{ℕ, Bool, sym, ap, ◌∙◌}
+use Rattle.std.proofs.Common.{ap, ◌∙◌}
 use Rattle.std.specs.Prelude.{◌==◌, pos}
 use Rattle.std.specs.Ordering.{int_eq}
 use Rattle.gate_arith.specs.Numbers.{number}

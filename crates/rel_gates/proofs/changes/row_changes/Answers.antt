@@ -1,5 +1,5 @@
 -- Place by place.
-use Rattle.std.proofs.Common.{◌≡◌, ℕ, ◌<◌, Bool, length, get_or, ap, ◌∙◌, arith}
+use Rattle.std.proofs.Common.{ℕ, Bool, length, get_or, ap, ◌∙◌, arith}
 use Rattle.std.specs.Prelude.{if◌then◌else◌}
 use Rattle.gate_core.specs.Circuit.{value}
 use Rattle.gate_sets.specs.Lists.{at}
@@ -17,7 +17,8 @@ returns-clause-truth c =
     let there = c.in_ok-there.there.items in
     let seen = c.deref.result.now in
     let choice = λ (inputs : ℕ → Bool) (i : ℕ). if value inputs old c.args.inside then at old c.args.given.now inputs i else at old c.args.old.now inputs i in
-    truth_alike c.same_places.new.gates (λ (inputs : ℕ → Bool). are_same (length row) (at third row inputs) (at third seen inputs)) (λ (inputs : ℕ → Bool). are_same width (at old row inputs) (choice inputs))
+    truth_alike c.same_places.new.gates (λ (inputs : ℕ → Bool). are_same (length row) (at third row inputs) (at third seen inputs)) (λ (inputs : ℕ → Bool). are_same width
+    (at old row inputs) (choice inputs))
     c.in_ok-gate.gate c.in_ok-gate.ensures.same (λ inputs.
     ap (λ gs. are_same (length row) (at third row inputs) (at third gs inputs)) c.deref.ensures.value
     ∙ ap (λ n. are_same n (at third row inputs) (at third there inputs)) c.requires.wide

@@ -1,5 +1,5 @@
 -- One object more.
-use Rattle.std.proofs.Common.{◌≡◌, ℕ, ◌<◌, Bool, length, refl, ap, arith}
+use Rattle.std.proofs.Common.{ℕ, ◌<◌, Bool, length, refl, arith}
 use Rattle.gate_core.specs.Circuit.{value}
 use Rattle.gate_core.proofs.Values.{keeps_twice}
 use Rattle.gate_sets.proofs.Places.{every_more}
@@ -22,7 +22,8 @@ loop-place-preserved c =
       keeps = keeps_twice old third new (keeps_twice old middle third inv.keeps c.in_ok-here.ensures.keeps) c.in_ok-every.ensures.keeps;
       every = every_more middle third new (λ (inputs : ℕ → Bool) (o : ℕ). changes width (value inputs old) members c.args.new.now c.args.given.now c.args.old.now o) place c.loop-place.every
           c.in_ok-here.here c.in_ok-every.every inv.every c.in_ok-here.ensures.keeps
-          (row_changed old middle third width (length members) place members c.args.new.now c.args.given.now c.args.old.now c.row-row_new.result.now c.row-row_old.result.now c.index-members-place.result
+          (row_changed old middle third width (length members)
+          place members c.args.new.now c.args.given.now c.args.old.now c.row-row_new.result.now c.row-row_old.result.now c.index-members-place.result
           c.in_ok-here.here inv.keeps c.requires.members c.requires.new c.requires.given c.requires.old refl below c.requires.long c.requires.alike refl c.row-row_new.ensures.gates
           c.row-row_old.ensures.gates c.index-members-place.is c.in_ok-here.ensures.truth)
           c.in_ok-every.ensures.truth;

@@ -1,5 +1,5 @@
 -- Object by object.
-use Rattle.std.proofs.Common.{◌≡◌, ℕ, ◌+◌, ◌<◌, Bool, not, ◌||◌, length, get_or, ap, ◌∙◌, arith}
+use Rattle.std.proofs.Common.{ℕ, ◌+◌, ◌<◌, Bool, not, ◌||◌, length, get_or, ap, ◌∙◌, arith}
 use Rattle.gate_core.specs.Circuit.{value}
 use Rattle.gate_sets.specs.Lists.{at}
 use Rattle.gate_sets.specs.Shapes.{has_object, is_within}

@@ -1,9 +1,7 @@
 -- One relation more.
-use Rattle.std.proofs.Common.{◌≡◌, ℕ, ◌+◌, ◌<◌, Bool, List, length, refl, ap, ◌∙◌, arith, Some}
-use Rattle.gate_core.specs.Circuit.{value, IsOf}
+use Rattle.std.proofs.Common.{arith}
+use Rattle.gate_core.specs.Circuit.{IsOf}
 use Rattle.gate_core.proofs.Values.{keeps_twice, all_more}
-use Rattle.rel_core.specs.declared.relation.RelVar.{RelVar}
-use Rattle.rel_gates.specs.Shown.{gates_of}
 use Rattle.rel_gates.proofs.ClassLimits.{limit_more}
 use Rattle.rel_gates.proofs.limits.limits.Goals as goal
 

@@ -1,5 +1,5 @@
 -- The gates of a number, from those within.
-use Rattle.std.proofs.Common.{◌≡◌, ◌++◌, true, sym, subst, ap, ◌∙◌, arith}
+use Rattle.std.proofs.Common.{◌≡◌, true, sym, subst, ap, ◌∙◌, arith}
 use Rattle.gate_core.specs.Circuit.{IsOf}
 use Rattle.rel_gates.specs.Naming.{number_uses, are_named}
 use Rattle.rel_gates.specs.Meant.{AreSet}
@@ -111,7 +111,8 @@ returns-in_ok-found-in-Diff-clause-number t c =
     let of_third = second.stands.there_of in
     let some_third : IsOf third 0 = omega (arith, of_third) in
     rw c.in-Diff.is
-    (difference_made p es third c.difference_of.new.gates c.in_ok-found-in-Diff.ensures.keeps some_third later c.in-Diff.a c.in-Diff.b x.bits.items x.there y.bits.items y.there found.bits.items found.there
+    (difference_made p es third c.difference_of.new.gates c.in_ok-found-in-Diff.ensures.keeps some_third later c.in-Diff.a c.in-Diff.b x.bits.items x.there
+    y.bits.items y.there found.bits.items found.there
     (number_kept p es middle third c.in-Diff.a x.bits.items x.there c.in_ok-y-in-Diff.ensures.keeps some stand first) second c.in_ok-found-in-Diff.ensures.difference)
 
 pub number_gates-requires-in-Product-2 : goal.number_gates-requires-in-Product-2
@@ -146,7 +147,8 @@ returns-in_ok-found-in-Product-clause-number t c =
     let of_third = second.stands.there_of in
     let some_third : IsOf third 0 = omega (arith, of_third) in
     rw c.in-Product.is
-    (product_made p es third c.product_of.new.gates c.in_ok-found-in-Product.ensures.keeps some_third later c.in-Product.a c.in-Product.b x.bits.items x.there y.bits.items y.there found.bits.items found.there
+    (product_made p es third c.product_of.new.gates c.in_ok-found-in-Product.ensures.keeps some_third later c.in-Product.a c.in-Product.b x.bits.items x.there
+    y.bits.items y.there found.bits.items found.there
     (number_kept p es middle third c.in-Product.a x.bits.items x.there c.in_ok-y-in-Product.ensures.keeps some stand first) second c.in_ok-found-in-Product.ensures.product)
 
 pub returns-in_ok-found-in-At-clause-number : goal.returns-in_ok-found-in-At-clause-number

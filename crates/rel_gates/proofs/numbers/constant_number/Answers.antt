@@ -1,15 +1,13 @@
 -- The bits below the sign, and the sign.
-use Rattle.std.proofs.Common.{◌≡◌, ℕ, ℤ, suc, ◌+◌, ◌-◌, ◌∷◌, ◌++◌, [], Bool, Option, Some, None, is_some, sym, subst, ap, ◌∙◌, arith, w32}
+use Rattle.std.proofs.Common.{◌≡◌, ℕ, suc, ◌-◌, Bool, Option, Some, None, sym, subst, ap, ◌∙◌, arith, w32}
 use Rattle.std.proofs.lemmas.Int.{to_z-of_z}
 use Rattle.std.specs.Prelude.{if◌then◌else◌, int_lt, pos, unwrap_or}
 use Rattle.gate_sets.specs.Lists.{AreTruths}
-use Rattle.gate_sets.proofs.Standing.{truth_alike}
 use Rattle.heap_core.specs.Posed.{Posed}
 use Rattle.heap_core.specs.Outcomes.{in_bits}
 use Rattle.rel_core.specs.declared.numbers.NumExpr.TheVariants.{Const}
 use Rattle.rel_gates.specs.Constants.{digit}
 use Rattle.rel_gates.specs.Counted.{low_part, IsNumberOf}
-use Rattle.rel_gates.proofs.Digits.{is_negative}
 use Rattle.rel_gates.proofs.NumberForms.{constant_number_is, below_zero}
 use Rattle.rel_gates.proofs.numbers.constant_number.Goals as goal
 

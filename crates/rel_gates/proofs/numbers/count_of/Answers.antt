@@ -1,5 +1,5 @@
 -- The objects of the set are counted, and null is not.
-use Rattle.std.proofs.Common.{◌≡◌, ℕ, ◌+◌, ◌<◌, Bool, length, drop, get_or, sym, subst, ap, ◌∙◌, arith, pos}
+use Rattle.std.proofs.Common.{◌≡◌, ℕ, ◌+◌, ◌<◌, Bool, length, get_or, subst, ap, ◌∙◌, arith, pos}
 use Rattle.std.proofs.lemmas.Grind.{get_or_after_one}
 use Rattle.gate_arith.specs.Numbers.{how_many}
 use Rattle.gate_arith.specs.Operations.{bits, IsNumber}

@@ -1,5 +1,5 @@
 -- The bits at the only object.
-use Rattle.std.proofs.Common.{◌≡◌, ◌+◌, ◌*◌, ◌≤◌, length, sym, subst, arith}
+use Rattle.std.proofs.Common.{subst, arith}
 use Rattle.gate_core.specs.Circuit.{IsOf}
 use Rattle.gate_sets.specs.Lists.{AreTruths}
 use Rattle.gate_sets.specs.Shapes.{joined_only}

@@ -1,5 +1,5 @@
 -- Both are there, and the result is within the width.
-use Rattle.std.proofs.Common.{◌≡◌, ℕ, ℤ, Bool, List, length, sym, subst}
+use Rattle.std.proofs.Common.{ℕ, ℤ, Bool, length, subst}
 use Rattle.std.specs.Prelude.{◌*ℤ◌}
 use Rattle.gate_arith.specs.Operations.{shown, IsNumber}
 use Rattle.rel_gates.proofs.NumberMeaning.{operation}

@@ -1,7 +1,7 @@
 -- One relation more.
-use Rattle.std.proofs.Common.{◌≡◌, ◌+◌, ◌<◌, ◌≤◌, List, [], length, take, refl, sym, subst, ap, ◌∙◌, arith}
+use Rattle.std.proofs.Common.{[], refl, sym, subst, arith}
 use Rattle.gate_core.proofs.Values.{keeps_same, keeps_twice}
-use Rattle.rel_gates.specs.Rows.{total, NamesTuple, NamesTuples}
+use Rattle.rel_gates.specs.Rows.{NamesTuples}
 use Rattle.rel_gates.proofs.TupleNaming.{total_all, absent, no_tuples, one_tuple_more}
 use Rattle.rel_gates.proofs.tuples.name_tuples.Goals as goal
 

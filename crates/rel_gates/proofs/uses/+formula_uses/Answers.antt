@@ -1,11 +1,11 @@
 -- The uses of a formula are those of its parts, in order.
-use Rattle.std.proofs.Common.{◌≡◌, ◌+◌, ◌∷◌, ◌++◌, [], length, take, refl, sym, subst, ap, ◌∙◌, append_assoc, arith}
+use Rattle.std.proofs.Common.{◌≡◌, ◌+◌, ◌∷◌, ◌++◌, [], take, sym, subst, ap, ◌∙◌, append_assoc, arith}
 use Rattle.std.specs.List.{flat_map}
 use Rattle.std.proofs.lemmas.List.{flat_map_more, take_more, take_all}
 use Rattle.rel_core.specs.declared.formula.Formula.{Formula}
 use Rattle.rel_gates.specs.Naming.{Wanted, uses, PartsFit}
 use Rattle.rel_gates.proofs.FormulaUses.{uses_subset, uses_is_class, uses_same_number, uses_below, uses_changed, uses_and, uses_or, uses_same}
-use Rattle.rel_gates.proofs.FormulaFits.{no_parts_fit, one_part_more, flag_at_fits, subset_fits, is_class_fits, same_number_fits, below_fits, fits_fits, changed_fits, not_fits, and_fits, or_fits, same_fits}
+use Rattle.rel_gates.proofs.FormulaFits.{one_part_more, flag_at_fits, subset_fits, is_class_fits, same_number_fits, below_fits, fits_fits, changed_fits, not_fits, and_fits, or_fits, same_fits}
 use Rattle.rel_gates.proofs.uses.+formula_uses.Goals as goal
 
 -- what is added twice
@@ -18,39 +18,48 @@ add_formula-returns-in_ok-push-in-FlagAt-clause-fits t c =
 
 pub add_formula-returns-in_ok-add_set-in-Subset-2-clause-added : goal.add_formula-returns-in_ok-add_set-in-Subset-2-clause-added
 add_formula-returns-in_ok-add_set-in-Subset-2-clause-added t c =
-    rw c.in-Subset.is (added_twice c.args.list.now.items _ _ _ _ _ (rw c.get-in-Subset.ensures at c.in_ok-add_set-in-Subset.ensures.added) (rw c.get-in-Subset-2.ensures at c.in_ok-add_set-in-Subset-2.ensures.added) (uses_subset c.args.problem.now c.in-Subset.a c.in-Subset.b))
+    rw c.in-Subset.is (added_twice c.args.list.now.items _ _ _ _ _ (rw c.get-in-Subset.ensures at c.in_ok-add_set-in-Subset.ensures.added)
+    (rw c.get-in-Subset-2.ensures at c.in_ok-add_set-in-Subset-2.ensures.added) (uses_subset c.args.problem.now c.in-Subset.a c.in-Subset.b))
 
 pub add_formula-returns-in_ok-add_set-in-Subset-2-clause-fits : goal.add_formula-returns-in_ok-add_set-in-Subset-2-clause-fits
 add_formula-returns-in_ok-add_set-in-Subset-2-clause-fits t c =
-    rw c.in-Subset.is (subset_fits c.args.problem.now c.in-Subset.a c.in-Subset.b (rw c.get-in-Subset.ensures at c.in_ok-add_set-in-Subset.ensures.fits) (rw c.get-in-Subset-2.ensures at c.in_ok-add_set-in-Subset-2.ensures.fits))
+    rw c.in-Subset.is (subset_fits c.args.problem.now c.in-Subset.a c.in-Subset.b (rw c.get-in-Subset.ensures at c.in_ok-add_set-in-Subset.ensures.fits)
+    (rw c.get-in-Subset-2.ensures at c.in_ok-add_set-in-Subset-2.ensures.fits))
 
 pub add_formula-returns-in_ok-add_number-in-SameNum-2-clause-added : goal.add_formula-returns-in_ok-add_number-in-SameNum-2-clause-added
 add_formula-returns-in_ok-add_number-in-SameNum-2-clause-added t c =
-    rw c.in-SameNum.is (added_twice c.args.list.now.items _ _ _ _ _ (rw c.get-in-SameNum.ensures at c.in_ok-add_number-in-SameNum.ensures.added) (rw c.get-in-SameNum-2.ensures at c.in_ok-add_number-in-SameNum-2.ensures.added) (uses_same_number c.args.problem.now c.in-SameNum.a c.in-SameNum.b))
+    rw c.in-SameNum.is (added_twice c.args.list.now.items _ _ _ _ _ (rw c.get-in-SameNum.ensures at c.in_ok-add_number-in-SameNum.ensures.added)
+    (rw c.get-in-SameNum-2.ensures at c.in_ok-add_number-in-SameNum-2.ensures.added) (uses_same_number c.args.problem.now c.in-SameNum.a c.in-SameNum.b))
 
 pub add_formula-returns-in_ok-add_number-in-SameNum-2-clause-fits : goal.add_formula-returns-in_ok-add_number-in-SameNum-2-clause-fits
 add_formula-returns-in_ok-add_number-in-SameNum-2-clause-fits t c =
-    rw c.in-SameNum.is (same_number_fits c.args.problem.now c.in-SameNum.a c.in-SameNum.b (rw c.get-in-SameNum.ensures at c.in_ok-add_number-in-SameNum.ensures.fits) (rw c.get-in-SameNum-2.ensures at c.in_ok-add_number-in-SameNum-2.ensures.fits))
+    rw c.in-SameNum.is (same_number_fits c.args.problem.now c.in-SameNum.a c.in-SameNum.b (rw c.get-in-SameNum.ensures at c.in_ok-add_number-in-SameNum.ensures.fits)
+    (rw c.get-in-SameNum-2.ensures at c.in_ok-add_number-in-SameNum-2.ensures.fits))
 
 pub add_formula-returns-in_ok-add_number-in-BelowNum-2-clause-added : goal.add_formula-returns-in_ok-add_number-in-BelowNum-2-clause-added
 add_formula-returns-in_ok-add_number-in-BelowNum-2-clause-added t c =
-    rw c.in-BelowNum.is (added_twice c.args.list.now.items _ _ _ _ _ (rw c.get-in-BelowNum.ensures at c.in_ok-add_number-in-BelowNum.ensures.added) (rw c.get-in-BelowNum-2.ensures at c.in_ok-add_number-in-BelowNum-2.ensures.added) (uses_below c.args.problem.now c.in-BelowNum.a c.in-BelowNum.b))
+    rw c.in-BelowNum.is (added_twice c.args.list.now.items _ _ _ _ _ (rw c.get-in-BelowNum.ensures at c.in_ok-add_number-in-BelowNum.ensures.added)
+    (rw c.get-in-BelowNum-2.ensures at c.in_ok-add_number-in-BelowNum-2.ensures.added) (uses_below c.args.problem.now c.in-BelowNum.a c.in-BelowNum.b))
 
 pub add_formula-returns-in_ok-add_number-in-BelowNum-2-clause-fits : goal.add_formula-returns-in_ok-add_number-in-BelowNum-2-clause-fits
 add_formula-returns-in_ok-add_number-in-BelowNum-2-clause-fits t c =
-    rw c.in-BelowNum.is (below_fits c.args.problem.now c.in-BelowNum.a c.in-BelowNum.b (rw c.get-in-BelowNum.ensures at c.in_ok-add_number-in-BelowNum.ensures.fits) (rw c.get-in-BelowNum-2.ensures at c.in_ok-add_number-in-BelowNum-2.ensures.fits))
+    rw c.in-BelowNum.is (below_fits c.args.problem.now c.in-BelowNum.a c.in-BelowNum.b (rw c.get-in-BelowNum.ensures at c.in_ok-add_number-in-BelowNum.ensures.fits)
+    (rw c.get-in-BelowNum-2.ensures at c.in_ok-add_number-in-BelowNum-2.ensures.fits))
 
 pub add_formula-returns-in_ok-add_formula-in-Same-2-clause-added : goal.add_formula-returns-in_ok-add_formula-in-Same-2-clause-added
 add_formula-returns-in_ok-add_formula-in-Same-2-clause-added t c =
-    rw c.in-Same.is (added_twice c.args.list.now.items _ _ _ _ _ (rw c.get-in-Same.ensures at c.in_ok-add_formula-in-Same.ensures.added) (rw c.get-in-Same-2.ensures at c.in_ok-add_formula-in-Same-2.ensures.added) (uses_same c.args.problem.now c.in-Same.a c.in-Same.b))
+    rw c.in-Same.is (added_twice c.args.list.now.items _ _ _ _ _ (rw c.get-in-Same.ensures at c.in_ok-add_formula-in-Same.ensures.added)
+    (rw c.get-in-Same-2.ensures at c.in_ok-add_formula-in-Same-2.ensures.added) (uses_same c.args.problem.now c.in-Same.a c.in-Same.b))
 
 pub add_formula-returns-in_ok-add_formula-in-Same-2-clause-fits : goal.add_formula-returns-in_ok-add_formula-in-Same-2-clause-fits
 add_formula-returns-in_ok-add_formula-in-Same-2-clause-fits t c =
-    rw c.in-Same.is (same_fits c.args.problem.now c.in-Same.a c.in-Same.b (rw c.get-in-Same.ensures at c.in_ok-add_formula-in-Same.ensures.fits) (rw c.get-in-Same-2.ensures at c.in_ok-add_formula-in-Same-2.ensures.fits))
+    rw c.in-Same.is (same_fits c.args.problem.now c.in-Same.a c.in-Same.b (rw c.get-in-Same.ensures at c.in_ok-add_formula-in-Same.ensures.fits)
+    (rw c.get-in-Same-2.ensures at c.in_ok-add_formula-in-Same-2.ensures.fits))
 
 pub add_formula-returns-in_ok-add_class-in-IsClass-clause-added : goal.add_formula-returns-in_ok-add_class-in-IsClass-clause-added
 add_formula-returns-in_ok-add_class-in-IsClass-clause-added t c =
-    rw c.in-IsClass.is (added_twice c.args.list.now.items _ _ _ _ _ (rw c.get-in-IsClass.ensures at c.in_ok-add_set-in-IsClass.ensures.added) c.in_ok-add_class-in-IsClass.ensures.added (uses_is_class c.args.problem.now c.in-IsClass.set c.in-IsClass.field-1 c.in-IsClass.relation))
+    rw c.in-IsClass.is (added_twice c.args.list.now.items _ _ _ _ _ (rw c.get-in-IsClass.ensures at c.in_ok-add_set-in-IsClass.ensures.added) c.in_ok-add_class-in-IsClass.ensures.added
+    (uses_is_class c.args.problem.now c.in-IsClass.set c.in-IsClass.field-1 c.in-IsClass.relation))
 
 pub add_formula-returns-in_ok-add_class-in-IsClass-clause-fits : goal.add_formula-returns-in_ok-add_class-in-IsClass-clause-fits
 add_formula-returns-in_ok-add_class-in-IsClass-clause-fits t c =
@@ -62,7 +71,8 @@ add_formula-returns-in_ok-add_number-in-Fits-clause-fits t c =
 
 pub add_formula-returns-in_ok-add_changed-in-Changed-clause-added : goal.add_formula-returns-in_ok-add_changed-in-Changed-clause-added
 add_formula-returns-in_ok-add_changed-in-Changed-clause-added t c =
-    rw c.in-Changed.is (added_twice c.args.list.now.items _ _ _ _ _ (rw c.get-in-Changed.ensures at c.in_ok-add_set-in-Changed.ensures.added) c.in_ok-add_changed-in-Changed.ensures.added (uses_changed c.args.problem.now c.in-Changed.new c.in-Changed.set c.in-Changed.given c.in-Changed.old))
+    rw c.in-Changed.is (added_twice c.args.list.now.items _ _ _ _ _ (rw c.get-in-Changed.ensures at c.in_ok-add_set-in-Changed.ensures.added) c.in_ok-add_changed-in-Changed.ensures.added
+    (uses_changed c.args.problem.now c.in-Changed.new c.in-Changed.set c.in-Changed.given c.in-Changed.old))
 
 pub add_formula-returns-in_ok-add_changed-in-Changed-clause-fits : goal.add_formula-returns-in_ok-add_changed-in-Changed-clause-fits
 add_formula-returns-in_ok-add_changed-in-Changed-clause-fits t c =
